@@ -1,0 +1,16 @@
+-- The laws that the proofs cite, and the theorems that belong to no one function.
+pub mod Bools
+pub mod Powers
+pub mod PackedLaws
+pub mod Values
+pub mod Lanes
+pub mod Leaf
+pub mod Loads
+pub mod Places
+pub mod Readings
+pub mod Within
+pub mod ReadSteps
+pub mod WriteSteps
+pub mod FieldLaws
+pub mod Determined
+pub mod DeterminedFields

@@ -1,0 +1,6 @@
+-- Packed digits and what is read of them: definitions that the contracts cite.
+pub mod Packed
+pub mod Words
+pub mod Halves
+pub mod Amounts
+pub mod Fields

@@ -1,0 +1,5 @@
+// Packed digits: numbers read out of lent bytes and written into them. Nothing here knows of frames.
+pub mod amounts;
+pub mod fields;
+pub mod halves;
+mod words;
