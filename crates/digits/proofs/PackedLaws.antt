@@ -106,7 +106,7 @@ pub packed-value : (bs : List ℕ) → good bs ≡ true → packed (length bs) (
 packed-value bs h = packed-valueFrom 0 bs h
 
 -- ---- a field 9(n) in the bytes that it takes
-hundred-pow : (k : ℕ) → 100 ^ k ≡ 10 ^ (k + k)
+pub hundred-pow : (k : ℕ) → 100 ^ k ≡ 10 ^ (k + k)
 hundred-pow zero = refl
 hundred-pow (suc k) = pow-suc 100 k ∙ ap (λ (x : ℕ). x * 100) (hundred-pow k) ∙ sym (pow-add 10 (k + k) 2) ∙ ap (λ (x : ℕ). 10 ^ x) (omega arith)
 

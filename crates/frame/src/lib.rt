@@ -1,0 +1,8 @@
+// The common frame: where a frame begins and ends on a line, what closes it, and the rules that formats share.
+// It knows no format's body.
+pub mod answer;
+pub mod bytes;
+mod check;
+pub mod closing;
+pub mod outline;
+pub mod rules;
