@@ -13,9 +13,13 @@ use lib.Dec.{leb, ltb, eqb}
 use borrow.Author.Tests.{lt-leb, le-leb, lt-ltb, le-ltb, ne-eqb, eq-eqb}
 use Rattle.frame.specs.Times.{timeOfDay, every, codeByte, codeRight, zeroCode}
 
+-- the next byte and those after it
+pub next-byte : (l : List ℕ) (i : ℕ) → i < length l → drop i l ≡ getD l i 0 ∷ drop (i + 1) l
+next-byte l i h = rw add-one (drop-cons l i 0 h)
+
 module _ (p : ℕ → Bool) (l : List ℕ) (i : ℕ) where
   next : i < length l → every p (drop i l) ≡ p (getD l i 0) && every p (drop (i + 1) l)
-  next h = rw (add-one, drop-cons l i 0)
+  next h = ap (every p) (next-byte l i h)
 
   -- a byte that fails the test decides
   pub every-fails : i < length l → every p (drop i l) ≡ every p l → p (getD l i 0) ≡ false → false ≡ every p l

@@ -1,0 +1,7 @@
+pub mod FieldAnswers
+pub mod CountLaws
+pub mod RuleLaws
+pub mod HaltLaws
+pub mod ReadLaws
+pub mod WriteLaws
+pub mod Determined

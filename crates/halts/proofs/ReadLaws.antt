@@ -1,0 +1,189 @@
+-- Reading a body: what its thirteen bytes hold, and one law for each answer.
+use Prim.Native.Nat.{ℕ, _+_, _^_, _≤_, _<_}
+use mathlib.Core.Path.{_≡_, refl, sym, ap, ap₂, _∙_, subst}
+use mathlib.Core.Bool.{Bool, true, false, cond, _&&_, and-true, and-false}
+use mathlib.Core.List.{List, [], _∷_, _++_}
+use native.Mathlib.Omega.{arith}
+use lib.Dec.{eqb, leb, ltb}
+use lib.ListN.{length, getD, take, drop, length-drop}
+use lib.Seq.{drop-drop, length-take-le, getD-drop, getD-take}
+use borrow.Author.Tests.{lt-ltb, lt-leb, leb-true}
+use Rattle.digits.specs.Packed.{good, value, goodField}
+use Rattle.digits.specs.Fields.{fieldAt}
+use Rattle.digits.specs.declared.fields.Field.{Field}
+use Rattle.digits.proofs.Bools.{and-both}
+use Rattle.digits.proofs.PackedLaws.{value-lt}
+use Rattle.digits.proofs.FieldLaws.{fieldAt-value}
+use Rattle.frame.specs.Cells.{raw, digits, goodCells}
+use Rattle.frame.specs.Rows.{firstFail}
+use Rattle.frame.specs.Answers.{named}
+use Rattle.frame.specs.Format.{ranged, valuesOf, bodyRows, bodyAnswer}
+use Rattle.frame.specs.declared.answer.Frame.{Frame}
+use Rattle.frame.specs.declared.answer.Answer.{Answer}
+use Rattle.frame.specs.declared.answer.Answer.the-variants.{Accepted, Refused}
+use Rattle.halts.specs.Halts.{nineteenCells, timesRight, nineteenTimed, codeFits, stateRight, nineteenRuled, nineteen, eventOf, sendingOf, haltOf, noHalt, haltReading}
+use Rattle.halts.specs.declared.Event.{Event}
+use Rattle.halts.specs.declared.Sending.{Sending}
+use Rattle.halts.specs.declared.Halt.{Halt}
+use Rattle.halts.specs.declared.HaltReading.{HaltReading}
+use Rattle.frame.proofs.RawLaws.{decode-raws, good-raws}
+use Rattle.frame.proofs.BodyRowLaws.{fails-range, fails-digits, fails-times, fails-fields, fails-none}
+use Rattle.halts.proofs.HaltLaws.{code-joined, halt-joined, resume-joined, state-joined, halt-of-joined}
+
+-- three bytes of good digits are a field 9(6)
+three-bytes : (bs : List ℕ) → length bs ≡ 3 → goodField 6 bs ≡ good bs
+three-bytes bs l = go (good bs) refl
+  where
+    go : (t : Bool) → good bs ≡ t → (t && ltb (value bs) (10 ^ 6)) ≡ t
+    go true g = lt-ltb (value bs) (10 ^ 6) (subst (λ (n : ℕ). value bs < 100 ^ n) l (value-lt bs g))
+    go false g = refl
+
+-- the first six bytes, one by one
+pub first-six : (b : List ℕ) → 6 ≤ length b
+    → getD b 0 0 ∷ getD b 1 0 ∷ getD b 2 0 ∷ getD b 3 0 ∷ getD b 4 0 ∷ getD b 5 0 ∷ [] ≡ take 6 b
+first-six [] h = absurd (omega arith)
+first-six (a ∷ []) h = absurd (omega arith)
+first-six (a ∷ b ∷ []) h = absurd (omega arith)
+first-six (a ∷ b ∷ c ∷ []) h = absurd (omega arith)
+first-six (a ∷ b ∷ c ∷ d ∷ []) h = absurd (omega arith)
+first-six (a ∷ b ∷ c ∷ d ∷ e ∷ []) h = absurd (omega arith)
+first-six (a ∷ b ∷ c ∷ d ∷ e ∷ f ∷ l) h = refl
+
+-- a halt is its four parts
+same-halt : (m : Halt) (n : ℕ) (code : List ℕ) (event : Event) (state : Sending) → m .seq ≡ n → m .code ≡ code → m .event ≡ event → m .state ≡ state
+    → m ≡ record { seq = n; code = code; event = event; state = state }
+same-halt m n code event state i j v w =
+    ap₂ (λ (x : ℕ) (y : List ℕ). record { seq = x; code = y; event = m .event; state = m .state }) i j
+    ∙ ap₂ (λ (x : Event) (y : Sending). record { seq = n; code = code; event = x; state = y }) v w
+
+-- ---- the answers
+chosen : (n : ℕ) (f : Frame) (m : Halt) → eqb n 0 ≡ false → leb n 5 ≡ false
+    → _≡_ {A = HaltReading} (record { answer = named n f; halt = cond (eqb n 0) m noHalt }) (record { answer = Refused n (f .length); halt = noHalt })
+chosen n f m z s = rw (z, s)
+
+module _ (seq : ℕ) (b : List ℕ) where
+  reading-of : (n : ℕ) → firstFail (bodyRows nineteen b) ≡ n
+      → haltReading seq b ≡ record {
+        answer = named n (record { format = 19; seq = seq; length = 13 + length b });
+        halt = cond (eqb n 0) (haltOf seq (valuesOf nineteen b)) noHalt;
+      }
+  unfolding haltReading bodyAnswer
+  reading-of n e =
+      ap (λ (k : ℕ). record {
+        answer = named k (record { format = 19; seq = seq; length = 13 + length b });
+        halt = cond (eqb k 0) (haltOf seq (valuesOf nineteen b)) noHalt;
+      }) e
+
+  pub refused-as : (n : ℕ) → eqb n 0 ≡ false → leb n 5 ≡ false → firstFail (bodyRows nineteen b) ≡ n → (k : ℕ) → k ≡ 13 + length b
+      → (x : HaltReading) → (x .answer ≡ Refused n k) × (x .halt ≡ noHalt) → x ≡ haltReading seq b
+  refused-as n z s e k w x p =
+      ap₂ (λ (a : Answer) (m : Halt). record { answer = a; halt = m }) (p .0 ∙ ap (Refused n) w) (p .1)
+      ∙ sym (reading-of n e ∙ chosen n (record { format = 19; seq = seq; length = 13 + length b }) (haltOf seq (valuesOf nineteen b)) z s)
+
+-- ---- a wrong length
+pub wrong-length : (b : List ℕ) → (length b ≡ 13 → ⊥) → firstFail (bodyRows nineteen b) ≡ 9
+wrong-length b n = fails-range nineteen b (go (leb 26 (13 + length b)) refl)
+  where
+    go : (t : Bool) → leb 26 (13 + length b) ≡ t → (t && leb (13 + length b) 26) ≡ false
+    go true e =
+        let p : 26 ≤ 13 + length b = leb-true 26 (13 + length b) e in
+        let q : length b ≤ 13 → ⊥ = λ u. n (omega arith) in
+        lt-leb (13 + length b) 26 (omega arith)
+    go false e = refl
+
+-- ---- thirteen bytes
+module _ (b : List ℕ) (l : length b ≡ 13) where
+  within-range : ranged nineteen (length b) ≡ true
+  within-range = ap (ranged nineteen) l
+
+  sized : eqb 13 (length b) ≡ true
+  sized = ap (eqb 13) l
+
+  time-long : (at : ℕ) → at ≤ 10 → length (take 3 (drop at b)) ≡ 3
+  time-long at h = length-take-le 3 (drop at b) (rw length-drop (omega arith))
+
+  good-told : goodCells nineteenCells b ≡ (good (take 3 (drop 6 b)) && good (take 3 (drop 9 b)))
+  good-told =
+      good-raws 6 (digits 6 ∷ digits 6 ∷ raw ∷ []) b
+      ∙ ap₂ _&&_ (three-bytes (take 3 (drop 6 b)) (time-long 6 (omega arith)))
+      (and-true (goodField 6 (take 3 (drop 3 (drop 6 b))))
+      ∙ ap (λ (k : List ℕ). goodField 6 (take 3 k)) (drop-drop 3 6 b)
+      ∙ three-bytes (take 3 (drop 9 b)) (time-long 9 (omega arith)))
+
+  values-told : valuesOf nineteen b ≡ take 6 b ++ (value (take 3 (drop 6 b)) ∷ value (take 3 (drop 9 b)) ∷ getD b 12 0 ∷ [])
+  values-told =
+      decode-raws 6 (digits 6 ∷ digits 6 ∷ raw ∷ []) b (omega arith)
+      ∙ ap₂ (λ (x y : List ℕ). take 6 b ++ (value (take 3 (drop 6 b)) ∷ value (take 3 x) ∷ getD (take 1 y) 0 0 ∷ []))
+      (drop-drop 3 6 b) (ap (drop 3) (drop-drop 3 6 b) ∙ drop-drop 3 9 b)
+      ∙ ap (λ (x : ℕ). take 6 b ++ (value (take 3 (drop 6 b)) ∷ value (take 3 (drop 9 b)) ∷ x ∷ []))
+      (getD-take 1 (drop 12 b) 0 0 (omega arith) ∙ getD-drop 12 b 0 0)
+
+  -- a bad digit in a time
+  pub bad-halt : good (take 3 (drop 6 b)) ≡ false → firstFail (bodyRows nineteen b) ≡ 11
+  bad-halt e = fails-digits nineteen b within-range refl sized (good-told ∙ ap (λ (t : Bool). t && good (take 3 (drop 9 b))) e)
+
+  pub bad-resume : good (take 3 (drop 9 b)) ≡ false → firstFail (bodyRows nineteen b) ≡ 11
+  bad-resume e =
+      fails-digits nineteen b within-range refl sized
+      (good-told ∙ ap (λ (t : Bool). good (take 3 (drop 6 b)) && t) e ∙ and-false (good (take 3 (drop 6 b))))
+
+  -- ---- both times are numbers
+  module _ (h r : ℕ) (ph : fieldAt b 6 3 ≡ Field.Value h) (pr : fieldAt b 9 3 ≡ Field.Value r) where
+    good-digits : goodCells nineteenCells b ≡ true
+    good-digits = good-told ∙ and-both (fieldAt-value b 6 3 h ph .2) (fieldAt-value b 9 3 r pr .2)
+
+    six-long : length (take 6 b) ≡ 6
+    six-long = length-take-le 6 b (omega arith)
+
+    values-are : valuesOf nineteen b ≡ take 6 b ++ (h ∷ r ∷ getD b 12 0 ∷ [])
+    values-are =
+        values-told
+        ∙ ap₂ (λ (x y : ℕ). take 6 b ++ (x ∷ y ∷ getD b 12 0 ∷ [])) (fieldAt-value b 6 3 h ph .3) (fieldAt-value b 9 3 r pr .3)
+
+    timed-told : nineteenTimed (valuesOf nineteen b) ≡ timesRight h r
+    timed-told =
+        ap nineteenTimed values-are
+        ∙ ap₂ timesRight (halt-joined (take 6 b) six-long h r (getD b 12 0)) (resume-joined (take 6 b) six-long h r (getD b 12 0))
+
+    ruled-told : nineteenRuled (valuesOf nineteen b) ≡ (codeFits (take 6 b) h r && stateRight (getD b 12 0))
+    ruled-told =
+        ap nineteenRuled values-are
+        ∙ cc (
+          code-joined (take 6 b) six-long h r (getD b 12 0),
+          halt-joined (take 6 b) six-long h r (getD b 12 0),
+          resume-joined (take 6 b) six-long h r (getD b 12 0),
+          state-joined (take 6 b) six-long h r (getD b 12 0),
+        )
+
+    pub wrong-times : timesRight h r ≡ false → firstFail (bodyRows nineteen b) ≡ 12
+    wrong-times e = fails-times nineteen b within-range refl sized good-digits (timed-told ∙ e)
+
+    module _ (t : timesRight h r ≡ true) where
+      pub wrong-code : codeFits (take 6 b) h r ≡ false → firstFail (bodyRows nineteen b) ≡ 13
+      wrong-code e =
+          fails-fields nineteen b within-range refl sized good-digits (timed-told ∙ t)
+          (ruled-told ∙ ap (λ (x : Bool). x && stateRight (getD b 12 0)) e)
+
+      pub wrong-state : stateRight (getD b 12 0) ≡ false → firstFail (bodyRows nineteen b) ≡ 13
+      wrong-state e =
+          fails-fields nineteen b within-range refl sized good-digits (timed-told ∙ t)
+          (ruled-told ∙ ap (λ (x : Bool). codeFits (take 6 b) h r && x) e ∙ and-false (codeFits (take 6 b) h r))
+
+      accepted : (n : ℕ) → codeFits (take 6 b) h r ≡ true → stateRight (getD b 12 0) ≡ true
+          → haltReading n b ≡ record {
+            answer = Accepted (record { format = 19; seq = n; length = 26 });
+            halt = record { seq = n; code = take 6 b; event = eventOf (take 6 b) h r; state = sendingOf (getD b 12 0) };
+          }
+      accepted n p q =
+          reading-of n b 0 (fails-none nineteen b within-range refl sized good-digits (timed-told ∙ t) (ruled-told ∙ and-both p q))
+          ∙ ap₂ (λ (k : ℕ) (m : Halt). record { answer = Accepted (record { format = 19; seq = n; length = 13 + k }); halt = m }) l
+          (ap (haltOf n) values-are ∙ halt-of-joined (take 6 b) six-long h r (getD b 12 0) n)
+
+      -- the message that the code makes
+      pub accepted-as : (n : ℕ) → codeFits (take 6 b) h r ≡ true → stateRight (getD b 12 0) ≡ true → (m : Halt) (code : List ℕ) → code ≡ take 6 b
+          → m .seq ≡ n → m .code ≡ code → m .event ≡ eventOf code h r → m .state ≡ sendingOf (getD b 12 0)
+          → _≡_ {A = HaltReading} (record { answer = Accepted (record { format = 19; seq = n; length = 26 }); halt = m }) (haltReading n b)
+      accepted-as n p q m code e i j v w =
+          let same : m ≡ record { seq = n; code = take 6 b; event = eventOf (take 6 b) h r; state = sendingOf (getD b 12 0) } =
+          same-halt m n (take 6 b) (eventOf (take 6 b) h r) (sendingOf (getD b 12 0)) i (j ∙ e) (v ∙ ap (λ (x : List ℕ). eventOf x h r) e) w in
+          ap (λ (x : Halt). record { answer = Accepted (record { format = 19; seq = n; length = 26 }); halt = x }) same ∙ sym (accepted n p q)

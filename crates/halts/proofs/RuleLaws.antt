@@ -1,0 +1,63 @@
+-- The rules on a body's numbers and its event, one law for each way through the code.
+use Prim.Native.Nat.{ℕ}
+use mathlib.Core.Path.{_≡_, refl, ap, _∙_}
+use mathlib.Core.Bool.{Bool, true, false, cond, _&&_, not}
+use mathlib.Core.List.{List}
+use borrow.Author.Tests.{eq-eqb, ne-eqb}
+use lib.Dec.{eqb}
+use Rattle.frame.specs.Times.{nines, timeOfDay, every, codeRight}
+use Rattle.halts.specs.Halts.{roundTimes, timesRight, digitByte, codeFits, asciiFrom, resumeOf, eventOf, sameResume, tidyEvent}
+use Rattle.halts.specs.declared.Resume.{Resume}
+use Rattle.halts.specs.declared.Resume.the-variants.{At}
+use Rattle.halts.specs.declared.Event.{Event}
+use Rattle.halts.specs.declared.Event.the-variants.{RoundEnd, Halted}
+
+module _ (h r : ℕ) where
+  -- ---- both times
+  pub times-round : roundTimes h r ≡ true → timesRight h r ≡ true
+  times-round e = rw e
+
+  module _ (e : roundTimes h r ≡ false) where
+    pub times-no-day : timeOfDay 0 h ≡ false → timesRight h r ≡ false
+    times-no-day d = rw (e, d)
+
+    module _ (d : timeOfDay 0 h ≡ true) where
+      pub times-open : r ≡ nines 0 → timesRight h r ≡ true
+      times-open n = rw (e, d, eq-eqb r (nines 0) n)
+
+      pub times-both : (r ≡ nines 0 → ⊥) → timesRight h r ≡ timeOfDay 0 r
+      times-both n = rw (e, d, ne-eqb r (nines 0) n)
+
+  module _ (code : List ℕ) where
+    -- ---- the code
+    pub code-wrong : codeRight code ≡ false → codeFits code h r ≡ false
+    code-wrong w = rw w
+
+    module _ (w : codeRight code ≡ true) where
+      pub code-round : roundTimes h r ≡ true → codeFits code h r ≡ every digitByte code
+      code-round e = rw (w, e)
+
+      pub code-halt : roundTimes h r ≡ false → codeFits code h r ≡ true
+      code-halt e = rw (w, e)
+
+    -- ---- the event
+    pub event-round : roundTimes h r ≡ true → eventOf code h r ≡ RoundEnd (asciiFrom 0 code)
+    event-round e = rw e
+
+    pub event-halt : roundTimes h r ≡ false → eventOf code h r ≡ Halted h (resumeOf r)
+    event-halt e = rw e
+
+-- ---- an event that is tidy
+pub tidy-round : (code : List ℕ) (e : Event) (n : ℕ) → e ≡ RoundEnd n → tidyEvent code e ≡ eqb n (asciiFrom 0 code)
+tidy-round code e n p = ap (tidyEvent code) p
+
+pub tidy-halted : (code : List ℕ) (e : Event) (t : ℕ) (r : Resume) → e ≡ Halted t r → (t ≡ nines 0 → ⊥) → tidyEvent code e ≡ sameResume r
+tidy-halted code e t r p n = ap (tidyEvent code) p ∙ ap (λ (x : Bool). cond x false true && sameResume r) (ne-eqb t (nines 0) n)
+
+-- a resume at a time, by a negated test
+pub same-at : (r : Resume) (t : ℕ) → r ≡ At t → sameResume r ≡ not (eqb t (nines 0))
+same-at r t p = ap sameResume p ∙ go (eqb t (nines 0))
+  where
+    go : (x : Bool) → cond x false true ≡ not x
+    go true = refl
+    go false = refl
