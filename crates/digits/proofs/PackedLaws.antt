@@ -8,7 +8,7 @@ use native.Mathlib.Numerals.{add-one}
 use native.Mathlib.Omega.{arith}
 use lib.Arith.{mod-mul, digits-div}
 use lib.Pow.{pow-add}
-use lib.ListN.{length}
+use lib.ListN.{length, take, drop, take-append-drop}
 use lib.Dec.{leb, ltb, lit<}
 use borrow.Author.Tests.{leb-true, le-leb, lt-ltb, ltb-true}
 use Rattle.digits.specs.Packed.{width, goodByte, good, two, valueFrom, value, goodField, byteOf, packed}
@@ -104,6 +104,15 @@ packed-valueFrom v (b ∷ bs) h =
 
 pub packed-value : (bs : List ℕ) → good bs ≡ true → packed (length bs) (value bs) ≡ bs
 packed-value bs h = packed-valueFrom 0 bs h
+
+-- ---- bytes in two parts
+pub valueFrom-append : (v : ℕ) (xs ys : List ℕ) → valueFrom v (xs ++ ys) ≡ valueFrom (valueFrom v xs) ys
+valueFrom-append v [] ys = refl
+valueFrom-append v (x ∷ xs) ys = valueFrom-append (v * 100 + two x) xs ys
+
+pub value-parts : (k : ℕ) (bs : List ℕ) → value bs ≡ value (take k bs) * 100 ^ length (drop k bs) + value (drop k bs)
+value-parts k bs =
+    ap value (sym (take-append-drop k bs)) ∙ valueFrom-append 0 (take k bs) (drop k bs) ∙ valueFrom-shift (value (take k bs)) (drop k bs)
 
 -- ---- a field 9(n) in the bytes that it takes
 pub hundred-pow : (k : ℕ) → 100 ^ k ≡ 10 ^ (k + k)

@@ -1,5 +1,6 @@
 -- The laws that the proofs cite, and the theorems that belong to no one function.
 pub mod CellLaws
+pub mod AppendLaws
 pub mod RowLaws
 pub mod OutlineLaws
 pub mod FormatLaws

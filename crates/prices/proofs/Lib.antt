@@ -1,0 +1,10 @@
+-- The laws that the proofs cite, and the theorems that belong to no one function.
+pub mod AndLaws
+pub mod PriceLaws
+pub mod Shapes
+pub mod RuleLaws
+pub mod SlotReads
+pub mod SlotsRead
+pub mod ReadLaws
+pub mod WriteLaws
+pub mod Determined

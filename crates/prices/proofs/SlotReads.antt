@@ -1,0 +1,162 @@
+-- A slot read out of bytes: what each field's call tells of its bytes, and what the fields tell of the slot.
+use Prim.Native.Nat.{ℕ, suc, _+_, _*_, _^_, _≤_, _<_}
+use mathlib.Core.Path.{_≡_, refl, sym, ap, ap₂, _∙_}
+use mathlib.Core.Bool.{Bool, true, false, cond, _&&_}
+use mathlib.Core.List.{List, [], _∷_, _++_}
+use native.Mathlib.Omega.{arith}
+use lib.ListN.{length, getD, take, drop, length-drop, take-append-drop}
+use lib.Seq.{drop-cons, drop-drop, length-take-le}
+use Rattle.digits.specs.Packed.{good, goodField, two, valueFrom, value}
+use Rattle.digits.specs.Amounts.{asPrice, asQuantity, priceAt, quantityAt, priceOf, quantityOf}
+use Rattle.digits.specs.Halves.{halvesAt, halvesOf, noHalves}
+use Rattle.digits.specs.declared.amounts.Price.{Price}
+use Rattle.digits.specs.declared.amounts.Quantity.{Quantity}
+use Rattle.digits.specs.declared.amounts.PriceField.{PriceField}
+use Rattle.digits.specs.declared.amounts.QuantityField.{QuantityField}
+use Rattle.digits.specs.declared.halves.Halves.{Halves}
+use Rattle.digits.proofs.Bools.{no-false, and-both}
+use Rattle.digits.proofs.Places.{inside}
+use Rattle.digits.proofs.PackedLaws.{value-parts}
+use Rattle.digits.proofs.Values.{even-field}
+use Rattle.frame.specs.Cells.{Cell, digits, goodCells, decode}
+use Rattle.prices.specs.declared.Slot.{Slot}
+use Rattle.prices.specs.Prices.{slotCells, slotOf}
+use Rattle.frame.proofs.RawLaws.{good-raws, decode-raws}
+use Rattle.prices.proofs.PriceLaws.{slot-made}
+
+-- the n bytes from a place
+abbrev pub part : ℕ → List ℕ → ℕ → List ℕ
+part n s at = take n (drop at s)
+
+length-part : (n : ℕ) (s : List ℕ) (at : ℕ) → at + n ≤ length s → length (part n s at) ≡ n
+length-part n s at h = length-take-le n (drop at s) (rw length-drop (omega arith))
+
+-- ---- six bytes, one by one
+next-byte : (n : ℕ) (s : List ℕ) (at k : ℕ) → at + k < length s → part (suc n) s (at + k) ≡ getD s (at + k) 0 ∷ part n s (at + suc k)
+next-byte n s at k h =
+    let e : suc (at + k) ≡ at + suc k = omega arith in
+    ap (take (suc n)) (drop-cons s (at + k) 0 h) ∙ ap (λ (j : ℕ). getD s (at + k) 0 ∷ take n (drop j s)) e
+
+pub six-bytes : (s : List ℕ) (at : ℕ) → at + 6 ≤ length s
+    → getD s at 0 ∷ getD s (at + 1) 0 ∷ getD s (at + 2) 0 ∷ getD s (at + 3) 0 ∷ getD s (at + 4) 0 ∷ getD s (at + 5) 0 ∷ [] ≡ part 6 s at
+six-bytes s at h =
+    let z : at + 0 ≡ at = omega arith in
+    sym (ap (λ (j : ℕ). part 6 s j) (sym z) ∙ next-byte 5 s at 0 (omega arith) ∙ ap₂ (λ (j : ℕ) (l : List ℕ). getD s j 0 ∷ l) z
+    (next-byte 4 s at 1 (omega arith) ∙ ap (λ (l : List ℕ). getD s (at + 1) 0 ∷ l)
+    (next-byte 3 s at 2 (omega arith) ∙ ap (λ (l : List ℕ). getD s (at + 2) 0 ∷ l)
+    (next-byte 2 s at 3 (omega arith) ∙ ap (λ (l : List ℕ). getD s (at + 3) 0 ∷ l)
+    (next-byte 1 s at 4 (omega arith) ∙ ap (λ (l : List ℕ). getD s (at + 4) 0 ∷ l)
+    (next-byte 0 s at 5 (omega arith)))))))
+
+-- ---- what a field's call tells
+module _ (s : List ℕ) (at : ℕ) where
+  pub price-bad : at + 5 ≤ length s → priceAt s at ≡ PriceField.Bad → goodField 9 (part 5 s at) ≡ false
+  price-bad h e = go (goodField 9 (part 5 s at)) (sym (inside 5 at s (priceOf (part 5 s at)) PriceField.Bad h) ∙ e)
+    where
+      go : (t : Bool) → cond t (PriceField.Is (asPrice (value (part 5 s at)))) PriceField.Bad ≡ PriceField.Bad → t ≡ false
+      go true k = cc
+      go false k = refl
+
+  pub price-is : (p : Price) → at + 5 ≤ length s → priceAt s at ≡ PriceField.Is p → (goodField 9 (part 5 s at) ≡ true) × (asPrice (value (part 5 s at)) ≡ p)
+  price-is p h e = go (goodField 9 (part 5 s at)) (sym (inside 5 at s (priceOf (part 5 s at)) PriceField.Bad h) ∙ e)
+    where
+      go : (t : Bool) → cond t (PriceField.Is (asPrice (value (part 5 s at)))) PriceField.Bad ≡ PriceField.Is p → (t ≡ true) × (asPrice (value (part 5 s at)) ≡ p)
+      go true k = (refl, cc)
+      go false k = (cc, cc)
+
+  pub quantity-bad : at + 4 ≤ length s → quantityAt s at ≡ QuantityField.Bad → goodField 8 (part 4 s at) ≡ false
+  quantity-bad h e = go (goodField 8 (part 4 s at)) (sym (inside 4 at s (quantityOf (part 4 s at)) QuantityField.Bad h) ∙ e)
+    where
+      go : (t : Bool) → cond t (QuantityField.Is (asQuantity (value (part 4 s at)))) QuantityField.Bad ≡ QuantityField.Bad → t ≡ false
+      go true k = cc
+      go false k = refl
+
+  pub quantity-is : (p : Quantity) → at + 4 ≤ length s → quantityAt s at ≡ QuantityField.Is p → (goodField 8 (part 4 s at) ≡ true) × (asQuantity (value (part 4 s at)) ≡ p)
+  quantity-is p h e = go (goodField 8 (part 4 s at)) (sym (inside 4 at s (quantityOf (part 4 s at)) QuantityField.Bad h) ∙ e)
+    where
+      go : (t : Bool) → cond t (QuantityField.Is (asQuantity (value (part 4 s at)))) QuantityField.Bad ≡ QuantityField.Is p → (t ≡ true) × (asQuantity (value (part 4 s at)) ≡ p)
+      go true k = (refl, cc)
+      go false k = (cc, cc)
+
+value-halves : (bs : List ℕ) → length bs ≡ 6 → value (take 2 bs) * 100000000 + value (drop 2 bs) ≡ value bs
+value-halves bs l =
+    let n : length (drop 2 bs) ≡ 4 = length-drop 2 bs ∙ omega arith in
+    sym (value-parts 2 bs ∙ ap (λ (k : ℕ). value (take 2 bs) * 100 ^ k + value (drop 2 bs)) n)
+
+module _ (s : List ℕ) (at : ℕ) (h : at + 6 ≤ length s) where
+  halves-in : halvesAt 6 2 s at ≡ halvesOf 2 (part 6 s at)
+  halves-in = inside 6 at s (halvesOf 2 (part 6 s at)) noHalves h
+
+  pub time-good : halvesAt 6 2 s at .good ≡ goodField 12 (part 6 s at)
+  time-good = ap (λ (x : Halves). x .good) halves-in ∙ sym (even-field 12 (part 6 s at) (ap (λ (k : ℕ). 100 ^ k) (sym (length-part 6 s at h))))
+
+  pub time-value : halvesAt 6 2 s at .first * 100000000 + halvesAt 6 2 s at .last ≡ value (part 6 s at)
+  time-value = ap (λ (x : Halves). x .first * 100000000 + x .last) halves-in ∙ value-halves (part 6 s at) (length-part 6 s at h)
+
+-- ---- a slot's fields at a place
+abbrev pub amountCells : List Cell
+amountCells = digits 9 ∷ digits 9 ∷ digits 9 ∷ digits 9 ∷ digits 8 ∷ digits 12 ∷ []
+
+module _ (s : List ℕ) (at : ℕ) where
+  -- a place further on
+  on : (k n m : ℕ) {l : List ℕ} → l ≡ drop (at + n) s → at + n + k ≡ at + m → drop k l ≡ drop (at + m) s
+  on k n m e q = ap (drop k) e ∙ drop-drop k (at + n) s ∙ ap (λ (j : ℕ). drop j s) q
+
+  at6 : drop 6 (drop at s) ≡ drop (at + 6) s
+  at6 = drop-drop 6 at s
+
+  at11 : drop 5 (drop 6 (drop at s)) ≡ drop (at + 11) s
+  at11 = on 5 6 11 at6 (omega arith)
+
+  at16 : drop 5 (drop 5 (drop 6 (drop at s))) ≡ drop (at + 16) s
+  at16 = on 5 11 16 at11 (omega arith)
+
+  at21 : drop 5 (drop 5 (drop 5 (drop 6 (drop at s)))) ≡ drop (at + 21) s
+  at21 = on 5 16 21 at16 (omega arith)
+
+  at26 : drop 5 (drop 5 (drop 5 (drop 5 (drop 6 (drop at s))))) ≡ drop (at + 26) s
+  at26 = on 5 21 26 at21 (omega arith)
+
+  at30 : drop 4 (drop 5 (drop 5 (drop 5 (drop 5 (drop 6 (drop at s)))))) ≡ drop (at + 30) s
+  at30 = on 4 26 30 at26 (omega arith)
+
+  pub slot-good : goodCells slotCells (drop at s)
+      ≡ (goodField 9 (part 5 s (at + 6)) && (goodField 9 (part 5 s (at + 11)) && (goodField 9 (part 5 s (at + 16)) && (goodField 9 (part 5 s (at + 21))
+      && (goodField 8 (part 4 s (at + 26)) && (goodField 12 (part 6 s (at + 30)) && true))))))
+  slot-good = good-raws 6 amountCells (drop at s) ∙ rw (at30, at26, at21, at16, at11, at6)
+
+  pub slot-values : at + 36 ≤ length s → slotOf (decode slotCells (drop at s))
+      ≡ record {
+        code = part 6 s at;
+        opening = asPrice (value (part 5 s (at + 6)));
+        highest = asPrice (value (part 5 s (at + 11)));
+        lowest = asPrice (value (part 5 s (at + 16)));
+        last = asPrice (value (part 5 s (at + 21)));
+        total = asQuantity (value (part 4 s (at + 26)));
+        time = value (part 6 s (at + 30));
+      }
+  slot-values h =
+      ap slotOf (decode-raws 6 amountCells (drop at s) (rw length-drop (omega arith)))
+      ∙ slot-made (part 6 s at) _ _ _ _ _ _ (length-part 6 s at (omega arith))
+      ∙ rw (at30, at26, at21, at16, at11, at6)
+
+-- ---- a bad field makes a bad slot
+pub slot-bad : (s : List ℕ) (at : ℕ) (x : Slot) {r : Bool} → r ≡ false → goodCells slotCells (drop at s) ≡ false
+    → (r ≡ goodCells slotCells (drop at s)) × (r ≡ true → x ≡ slotOf (decode slotCells (drop at s)))
+slot-bad s at x p q = (p ∙ sym q, λ t. absurd (no-false (sym p ∙ t)))
+
+-- ---- good fields make the slot
+module _ (s : List ℕ) (at : ℕ) (l : at + 36 ≤ length s) {code : List ℕ} {o h w t : Price} {q : Quantity} {m : ℕ} where
+  pub slot-is : code ≡ part 6 s at
+      → (goodField 9 (part 5 s (at + 6)) ≡ true) × (asPrice (value (part 5 s (at + 6))) ≡ o)
+      → (goodField 9 (part 5 s (at + 11)) ≡ true) × (asPrice (value (part 5 s (at + 11))) ≡ h)
+      → (goodField 9 (part 5 s (at + 16)) ≡ true) × (asPrice (value (part 5 s (at + 16))) ≡ w)
+      → (goodField 9 (part 5 s (at + 21)) ≡ true) × (asPrice (value (part 5 s (at + 21))) ≡ t)
+      → (goodField 8 (part 4 s (at + 26)) ≡ true) × (asQuantity (value (part 4 s (at + 26))) ≡ q)
+      → goodField 12 (part 6 s (at + 30)) ≡ true → m ≡ value (part 6 s (at + 30))
+      → (true ≡ goodCells slotCells (drop at s))
+      × (true ≡ true → record { code = code; opening = o; highest = h; lowest = w; last = t; total = q; time = m } ≡ slotOf (decode slotCells (drop at s)))
+  slot-is e1 e2 e3 e4 e5 e6 g e7 = (
+    sym (slot-good s at ∙ and-both (e2 .0) (and-both (e3 .0) (and-both (e4 .0) (and-both (e5 .0) (and-both (e6 .0) (and-both g refl)))))),
+    λ u. rw (e1, ← e2 .1, ← e3 .1, ← e4 .1, ← e5 .1, ← e6 .1, e7) (sym (slot-values s at l)),
+  )

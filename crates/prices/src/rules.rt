@@ -1,0 +1,130 @@
+// The rules on what the slots hold.
+ghost use Prim.Native.Nat.{_-_};
+ghost use mathlib.Core.Path.{_≡_};
+ghost use mathlib.Core.Bool.{_&&_, _||_};
+ghost use lib.Dec.{eqb, leb};
+ghost use Rattle.frame.specs.Times.{timeOfDay, nines, every};
+ghost use Rattle.prices.specs.Prices.{slotsPass, slotTimed, slotRuled, slotValues, slotsValues};
+use crate::Slot;
+
+// All nines: the closing price.
+const NINES: u64 = 999_999_999_999;
+
+// Hours, minutes and seconds, with six digits of a free fraction.
+fn time_of_day(t: u64) -> bool
+    ensures { λ r. ⌜ r ≡ timeOfDay 6 t ⌝ }
+{
+    let hhmmss = t / 1_000_000;
+    if hhmmss > 239999 {
+        return false;
+    }
+    frame::rules::time_of_day(hhmmss as u32)
+}
+
+// One less, or 0.
+fn less_one(n: usize) -> usize
+    ensures { λ r. ⌜ r ≡ n - 1 ⌝ }
+{
+    if n > 0 { n - 1 } else { 0 }
+}
+
+// The time of a slot where n counted ones are still to come.
+fn time_right(t: u64, n: usize) -> bool
+    ensures { λ r. ⌜ r ≡ (timeOfDay 6 t || (leb 1 n && eqb t (nines 6))) ⌝ }
+{
+    if time_of_day(t) {
+        return true;
+    }
+    if n == 0 {
+        return false;
+    }
+    t == NINES
+}
+
+// Row 12: every slot's time, of which the first n slots are counted.
+pub(crate) fn timed(slots: [Slot; 10], n: usize) -> bool
+    ensures { λ r. ⌜ r ≡ slotsPass slotTimed 10 n (slotsValues slots) ⌝ }
+{
+    let mut i = 0;
+    let mut left = n;
+    while i < 10 {
+        let s = slots[i];
+        if !time_right(s.time, left) {
+            return false;
+        }
+        left = less_one(left);
+        i += 1;
+    }
+    true
+}
+
+// Every byte of a code lies between two.
+fn all_between(code: [u8; 6], low: u8, high: u8) -> bool
+    ensures { λ r. ⌜ r ≡ every (λ b. leb low b && leb b high) code ⌝ }
+{
+    let mut i = 0;
+    while i < 6 {
+        let b = code[i];
+        if b < low {
+            return false;
+        }
+        if b > high {
+            return false;
+        }
+        i += 1;
+    }
+    true
+}
+
+// Every number is zero.
+fn all_zero(amounts: [u64; 6]) -> bool
+    ensures { λ r. ⌜ r ≡ every (eqb 0) amounts ⌝ }
+{
+    let mut i = 0;
+    while i < 6 {
+        if amounts[i] > 0 {
+            return false;
+        }
+        i += 1;
+    }
+    true
+}
+
+// The fields of a slot where n counted ones are still to come.
+fn slot_right(s: Slot, n: usize) -> bool
+    ensures { λ r. ⌜ r ≡ slotRuled n (slotValues s) ⌝ }
+{
+    let code = s.code;
+    if n > 0 {
+        return all_between(code, 32, 126);
+    }
+    if !all_between(code, 32, 32) {
+        return false;
+    }
+    let amounts = [
+        s.opening.0 as u64,
+        s.highest.0 as u64,
+        s.lowest.0 as u64,
+        s.last.0 as u64,
+        s.total.0 as u64,
+        s.time,
+    ];
+    all_zero(amounts)
+}
+
+// Row 13 for every slot, of which the first n are counted.
+pub(crate) fn ruled(slots: [Slot; 10], n: usize) -> bool
+    ensures { λ r. ⌜ r ≡ slotsPass slotRuled 10 n (slotsValues slots) ⌝ }
+{
+    let mut i = 0;
+    let mut left = n;
+    while i < 10 {
+        let s = slots[i];
+        if !slot_right(s, left) {
+            return false;
+        }
+        left = less_one(left);
+        i += 1;
+    }
+    true
+}

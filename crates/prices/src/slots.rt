@@ -1,0 +1,135 @@
+// Slots read out of a body.
+ghost use Prim.Native.Nat.{_+_, _≤_};
+ghost use mathlib.Core.Path.{_≡_};
+ghost use mathlib.Core.Bool.{true, false};
+ghost use lib.ListN.{length, take, drop, replicate};
+ghost use Rattle.frame.specs.Cells.{goodCells, decode};
+ghost use Rattle.prices.specs.Prices.{slotCells, slotsCells, slotOf, slotsOf, noSlot};
+use crate::Slot;
+use digits::amounts::Price;
+use digits::amounts::PriceField;
+use digits::amounts::Quantity;
+use digits::amounts::QuantityField;
+use digits::halves::six_at;
+
+// The bytes of a slot.
+const SLOT: usize = 36;
+
+// What a time's last eight digits count up to.
+const ABOVE_EIGHT: u64 = 100_000_000;
+
+// A slot, which says nothing where a digit is bad.
+pub(crate) struct SlotField {
+    pub good: bool,
+    pub slot: Slot,
+}
+
+// All ten.
+pub(crate) struct SlotsField {
+    pub good: bool,
+    pub slots: [Slot; 10],
+}
+
+// The empty slot.
+fn no_slot() -> Slot
+    ensures { λ r. ⌜ r ≡ noSlot ⌝ }
+{
+    Slot {
+        code: [0u8; 6],
+        opening: Price(0),
+        highest: Price(0),
+        lowest: Price(0),
+        last: Price(0),
+        total: Quantity(0),
+        time: 0,
+    }
+}
+
+pub(crate) fn no_slots() -> [Slot; 10]
+    ensures { λ r. ⌜ r ≡ replicate 10 noSlot ⌝ }
+{
+    let s = no_slot();
+    [s; 10]
+}
+
+fn bad_slot() -> SlotField
+    ensures { λ r. ⌜ r .good ≡ false ⌝ }
+{
+    let slot = no_slot();
+    SlotField { good: false, slot }
+}
+
+// The six bytes of a code.
+fn code_at(body: &[u8], at: usize) -> [u8; 6]
+    requires { ⌜ at + 6 ≤ length (now body) ⌝ }
+    ensures { λ r. ⌜ r ≡ take 6 (drop at (now (body .entry))) ⌝ }
+{
+    [
+        body[at],
+        body[at + 1],
+        body[at + 2],
+        body[at + 3],
+        body[at + 4],
+        body[at + 5],
+    ]
+}
+
+// The 36 bytes of a slot.
+fn slot_at(body: &[u8], at: usize) -> SlotField
+    requires { ⌜ at + 36 ≤ length (now body) ⌝ }
+    ensures { λ r. ⌜ (r .good ≡ goodCells slotCells (drop at (now (body .entry)))) × (r .good ≡ true → r .slot ≡ slotOf (decode slotCells (drop at (now (body .entry))))) ⌝ }
+{
+    let PriceField::Is(opening) = Price::from_digits(body, at + 6) else {
+        return bad_slot();
+    };
+    let PriceField::Is(highest) = Price::from_digits(body, at + 11) else {
+        return bad_slot();
+    };
+    let PriceField::Is(lowest) = Price::from_digits(body, at + 16) else {
+        return bad_slot();
+    };
+    let PriceField::Is(last) = Price::from_digits(body, at + 21) else {
+        return bad_slot();
+    };
+    let QuantityField::Is(total) = Quantity::from_digits(body, at + 26) else {
+        return bad_slot();
+    };
+    let h = six_at(body, at + 30);
+    if h.good {
+        let code = code_at(body, at);
+        let time = (h.first as u64) * ABOVE_EIGHT + (h.last as u64);
+        let slot = Slot {
+            code,
+            opening,
+            highest,
+            lowest,
+            last,
+            total,
+            time,
+        };
+        SlotField { good: true, slot }
+    } else {
+        bad_slot()
+    }
+}
+
+// The ten slots after the count, up to the first with a bad digit.
+pub(crate) fn slots_in(body: &[u8]) -> SlotsField
+    requires { ⌜ length (now body) ≡ 361 ⌝ }
+    ensures { λ r. ⌜ (r .good ≡ goodCells (slotsCells 10) (drop 1 (now (body .entry)))) × (r .good ≡ true → r .slots ≡ slotsOf 10 (decode (slotsCells 10) (drop 1 (now (body .entry))))) ⌝ }
+{
+    let mut slots = no_slots();
+    let mut i = 0;
+    let mut at = 1;
+    while i < 10 {
+        let f = slot_at(body, at);
+        if !f.good {
+            return SlotsField { good: false, slots };
+        }
+        let s = f.slot;
+        slots[i] = s;
+        at += SLOT;
+        i += 1;
+    }
+    SlotsField { good: true, slots }
+}

@@ -1,0 +1,53 @@
+-- What the steps of reading a quote hand on to each other.
+use Prim.Native.Nat.{ℕ, _+_, _*_, _≤_, _<_}
+use mathlib.Core.Path.{_≡_}
+use mathlib.Core.List.{List}
+use lib.ListN.{length, getD, take, drop}
+use Rattle.digits.specs.Packed.{value}
+use Rattle.digits.specs.Amounts.{asQuantity}
+use Rattle.digits.specs.declared.amounts.Pair.{Pair}
+use Rattle.digits.specs.declared.amounts.Quantity.{Quantity}
+use Rattle.frame.specs.declared.answer.Answer.the-variants.{Accepted, Refused}
+use Rattle.quotes.specs.declared.quote.QuoteReading.{QuoteReading}
+use Rattle.quotes.specs.Quotes.{trades, bidLevels, askLevels, noPair, noQuote, pairsIn, padded}
+
+-- a refusal with its number and the whole frame's length
+abbrev pub refusedReading : ℕ → ℕ → QuoteReading
+refusedReading number n = record { answer = Refused number n; quote = noQuote }
+
+-- an accepted body with what its packed fields hold
+abbrev pub acceptedReading : ℕ → List ℕ → ℕ → Quantity → Pair → List Pair → List Pair → QuoteReading
+acceptedReading seq b time total trade bids asks = record {
+  answer = Accepted (record { format = 6; seq = seq; length = length b + 13 });
+  quote = record {
+    seq = seq;
+    code = take 6 b;
+    time = time;
+    reveal = getD b 12 0;
+    limit = getD b 13 0;
+    status = getD b 14 0;
+    total = total;
+    trade = trade;
+    bids = bids;
+    asks = asks;
+  };
+}
+
+-- the reveal byte's counts, and the length that it dictates
+pub record Dictated (b : List ℕ) (nt nb na : ℕ) : Type 0 where
+  pub is-trades : nt ≡ trades (getD b 12 0)
+  pub is-bids : nb ≡ bidLevels (getD b 12 0)
+  pub is-asks : na ≡ askLevels (getD b 12 0)
+  pub few-bids : nb ≤ 5
+  pub few-asks : na ≤ 5
+  pub as-long : length b ≡ 19 + 9 * (nt + (nb + na))
+
+-- what good packed fields hold: the time's two parts, the total, and the three parts of the pairs
+pub record Parts (b : List ℕ) (nt nb na first last : ℕ) (total : Quantity) (trade : Pair) (bids asks : List Pair) : Type 0 where
+  pub first-small : first < 10000
+  pub last-small : last < 100000000
+  pub time-is : first * 100000000 + last ≡ value (take 6 (drop 6 b))
+  pub total-is : total ≡ asQuantity (value (take 4 (drop 15 b)))
+  pub trade-is : trade ≡ getD (pairsIn nt (drop 19 b)) 0 noPair
+  pub bids-are : bids ≡ padded (pairsIn nb (drop (19 + 9 * nt) b))
+  pub asks-are : asks ≡ padded (pairsIn na (drop (19 + 9 * nt + 9 * nb) b))

@@ -1,0 +1,3 @@
+// Format six: live quotes.
+pub mod quote;
+pub mod reading;
