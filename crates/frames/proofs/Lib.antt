@@ -1,2 +1,5 @@
 -- The laws that the proofs cite, and the theorems that belong to no one function.
 pub mod ReadingLaws
+pub mod Trips
+pub mod EdgesHold
+pub mod Determined

@@ -117,7 +117,7 @@ module _ (bu fm ve : ℕ) (more : List Row) where
   header-passes : known ≡ true → eqb ve (formatOf fm .version) ≡ true → firstFail (kindRows bu fm ve ++ more) ≡ firstFail more
   header-passes e v = rw (e, v)
 
-  header-holds : firstFail (kindRows bu fm ve ++ more) ≡ 0 → (known ≡ true) × (ve ≡ formatOf fm .version)
+  pub header-holds : firstFail (kindRows bu fm ve ++ more) ≡ 0 → (known ≡ true) × (ve ≡ formatOf fm .version)
   header-holds p = (
     row-holds 6 known (must 8 (eqb ve (formatOf fm .version)) ∷ more) p,
     eqb-true ve (formatOf fm .version) (row-holds 7 (eqb ve (formatOf fm .version)) more (rows-after 6 known (must 8 (eqb ve (formatOf fm .version)) ∷ more) p)),
@@ -172,7 +172,7 @@ module _ {M : Type 0} (C : Codec M) (none : M) (same : formatOf (C .form .number
   given = C .message (number (own t)) (valuesOf (C .form) (body (own t)))
 
   module _ (bu : business (own t) ≡ 1) (fm : format (own t) ≡ C .form .number) (ve : version (own t) ≡ C .form .version) where
-    rows-body : firstFail (rows t) ≡ firstFail (bodyRows (C .form) (body (own t)))
+    pub rows-body : firstFail (rows t) ≡ firstFail (bodyRows (C .form) (body (own t)))
     rows-body =
         rows-outlined t o
         ∙ (λ i. firstFail (kindRows (bu i) (fm i) (ve i) ++ bodyRows (formatOf (fm i)) (body (own t))))

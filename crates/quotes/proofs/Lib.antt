@@ -3,3 +3,7 @@ pub mod QuoteLaws
 pub mod SideLaws
 pub mod ReadLaws
 pub mod BodyLaws
+pub mod PartLaws
+pub mod LegalLaws
+pub mod WriteLaws
+pub mod Determined

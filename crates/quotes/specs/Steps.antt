@@ -1,13 +1,17 @@
--- What the steps of reading a quote hand on to each other.
-use Prim.Native.Nat.{ℕ, _+_, _*_, _≤_, _<_}
+-- What the steps of reading a quote hand on to each other, and what the steps of writing one test.
+use Prim.Native.Nat.{ℕ, zero, suc, _+_, _*_, _^_, _≤_, _<_}
 use mathlib.Core.Path.{_≡_}
-use mathlib.Core.List.{List}
+use mathlib.Core.Bool.{Bool, true, false, cond, _&&_}
+use mathlib.Core.List.{List, [], _∷_, _++_}
 use lib.ListN.{length, getD, take, drop}
-use Rattle.digits.specs.Packed.{value}
+use lib.Dec.{eqb, leb, ltb}
+use Rattle.digits.specs.Packed.{value, packed}
 use Rattle.digits.specs.Amounts.{asQuantity}
 use Rattle.digits.specs.declared.amounts.Pair.{Pair}
 use Rattle.digits.specs.declared.amounts.Quantity.{Quantity}
+use Rattle.frame.specs.Times.{timeOfDay, nines, zeroCode}
 use Rattle.frame.specs.declared.answer.Answer.the-variants.{Accepted, Refused}
+use Rattle.quotes.specs.declared.quote.Quote.{Quote}
 use Rattle.quotes.specs.declared.quote.QuoteReading.{QuoteReading}
 use Rattle.quotes.specs.Quotes.{trades, bidLevels, askLevels, noPair, noQuote, pairsIn, padded}
 
@@ -51,3 +55,30 @@ pub record Parts (b : List ℕ) (nt nb na first last : ℕ) (total : Quantity) (
   pub trade-is : trade ≡ getD (pairsIn nt (drop 19 b)) 0 noPair
   pub bids-are : bids ≡ padded (pairsIn nb (drop (19 + 9 * nt) b))
   pub asks-are : asks ≡ padded (pairsIn na (drop (19 + 9 * nt + 9 * nb) b))
+
+-- a time of twelve digits that the code allows
+abbrev pub timeRight : List ℕ → ℕ → Bool
+timeRight code t = ltb t (10 ^ 12) && cond (zeroCode code) (eqb t (nines 6)) (timeOfDay 6 t)
+
+-- a used pair's numbers have at most their digits; an unused pair is zero
+abbrev pub pairRight : Bool → Pair → Bool
+pairRight used p = cond used (ltb (p .price .0) (10 ^ 9) && ltb (p .quantity .0) (10 ^ 8)) (eqb 0 (p .price .0) && eqb 0 (p .quantity .0))
+
+-- of some pairs the first n are used
+abbrev pub partRight : ℕ → List Pair → Bool
+partRight n [] = true
+partRight zero (p ∷ ps) = pairRight false p && partRight zero ps
+partRight (suc n) (p ∷ ps) = pairRight true p && partRight n ps
+
+-- the level counts, and the pairs of all three parts
+unfoldable pub pairsRight : Quote → Bool
+pairsRight m =
+    let r = m .reveal in
+    leb (bidLevels r) 5
+    && (leb (askLevels r) 5
+    && (partRight (trades r) (m .trade ∷ [])
+    && (partRight (bidLevels r) (m .bids) && partRight (askLevels r) (m .asks))))
+
+-- the bytes of a quote's body before its pairs
+unfoldable pub fixedBytes : Quote → List ℕ
+fixedBytes m = m .code ++ (packed 6 (m .time) ++ (m .reveal ∷ m .limit ∷ m .status ∷ packed 4 (m .total .0)))
