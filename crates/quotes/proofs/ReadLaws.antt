@@ -5,11 +5,11 @@ use mathlib.Core.Bool.{Bool, true, false, cond, _&&_, and-assoc}
 use mathlib.Core.List.{List, [], _∷_, _++_}
 use native.Mathlib.Omega.{arith}
 use lib.ListN.{length, getD, take, drop, length-drop, take-append-drop}
-use lib.Seq.{drop-drop, getD-take, getD-drop, length-take-le, take-all}
+use lib.Seq.{drop-drop, getD-take, getD-drop, length-take-le, take-take}
 use lib.Dec.{eqb, leb, ltb, lit<}
 use borrow.Author.Tests.{eq-eqb, ne-eqb, eqb-true, eqb-false, le-leb, lt-leb}
 use Rattle.digits.specs.Packed.{good, goodField, value, valueFrom}
-use Rattle.digits.specs.Halves.{halvesAt, halvesOf}
+use Rattle.digits.specs.Halves.{halvesAt, halvesOf, noHalves}
 use Rattle.digits.specs.Amounts.{asQuantity, quantityAt, quantityOf}
 use Rattle.digits.specs.declared.amounts.Pair.{Pair}
 use Rattle.digits.specs.declared.amounts.Quantity.{Quantity}
@@ -185,16 +185,21 @@ module _ (b : List ℕ) (nt nb na : ℕ) (one : nt ≤ 1) (len : length b ≡ 19
       pub sides-say : goodTrades ≡ true → (x : Bool) → goodBids && goodAsks ≡ x → x ≡ goodCells (sixCells (nt + (nb + na))) b
       sides-say e x f = sym f ∙ sym (ap (λ (y : Bool). y && (goodBids && goodAsks)) e) ∙ after-total
 
-  time-halves : {h : Halves} → h ≡ halvesAt 6 2 b 6 → h ≡ halvesOf 2 (take 6 (drop 6 b))
-  time-halves e = e ∙ inside 6 6 b (halvesOf 2 (take 6 (drop 6 b))) (record { good = false; first = 0; last = 0 }) (omega arith)
+  time-halves : {h : Halves} → h ≡ halvesAt 6 2 (take 6 (drop 6 b)) 0 → h ≡ halvesOf 2 (take 6 (drop 6 b))
+  time-halves e =
+      e ∙ inside 6 0 (take 6 (drop 6 b)) (halvesOf 2 (take 6 (take 6 (drop 6 b)))) noHalves (omega (arith, time-long))
+      ∙ ap (halvesOf 2) (take-take 6 6 (drop 6 b) (omega arith))
 
-  pub time-flag : {h : Halves} → h ≡ halvesAt 6 2 b 6 → h .good ≡ goodTime
+  pub time-flag : {h : Halves} → h ≡ halvesAt 6 2 (take 6 (drop 6 b)) 0 → h .good ≡ goodTime
   time-flag e = ap (λ (x : Halves). x .good) (time-halves e)
 
-  total-place : quantityAt b 15 ≡ quantityOf (take 4 (drop 15 b))
-  total-place = inside 4 15 b (quantityOf (take 4 (drop 15 b))) QuantityField.Bad (omega arith)
+  total-place : quantityAt (take 4 (drop 15 b)) 0 ≡ quantityOf (take 4 (drop 15 b))
+  total-place =
+      let long : length (take 4 (drop 15 b)) ≡ 4 = length-take-le 4 (drop 15 b) (rw length-drop (omega arith)) in
+      inside 4 0 (take 4 (drop 15 b)) (quantityOf (take 4 (take 4 (drop 15 b)))) QuantityField.Bad (omega arith)
+      ∙ ap quantityOf (take-take 4 4 (drop 15 b) (omega arith))
 
-  pub total-good : (q : Quantity) → quantityAt b 15 ≡ QuantityField.Is q → (goodTotal ≡ true) × (q ≡ asQuantity (value (take 4 (drop 15 b))))
+  pub total-good : (q : Quantity) → quantityAt (take 4 (drop 15 b)) 0 ≡ QuantityField.Is q → (goodTotal ≡ true) × (q ≡ asQuantity (value (take 4 (drop 15 b))))
   total-good q e = go goodTotal (sym total-place ∙ e)
     where
       go : (t : Bool) → cond t (QuantityField.Is (asQuantity (value (take 4 (drop 15 b))))) QuantityField.Bad ≡ QuantityField.Is q
@@ -202,7 +207,7 @@ module _ (b : List ℕ) (nt nb na : ℕ) (one : nt ≤ 1) (len : length b ≡ 19
       go true p = (refl, cc)
       go false p = (cc, cc)
 
-  pub total-bad : quantityAt b 15 ≡ QuantityField.Bad → goodTotal ≡ false
+  pub total-bad : quantityAt (take 4 (drop 15 b)) 0 ≡ QuantityField.Bad → goodTotal ≡ false
   total-bad e = go goodTotal (sym total-place ∙ e)
     where
       go : (t : Bool) → cond t (QuantityField.Is (asQuantity (value (take 4 (drop 15 b))))) QuantityField.Bad ≡ QuantityField.Bad → t ≡ false
@@ -214,7 +219,7 @@ module _ (b : List ℕ) (nt nb na : ℕ) (one : nt ≤ 1) (len : length b ≡ 19
   first-padded [] = refl
   first-padded (p ∷ ps) = refl
 
-  pub parts : {h : Halves} (q : Quantity) (ts bs cs : List Pair) → h ≡ halvesAt 6 2 b 6 → goodTime ≡ true → q ≡ asQuantity (value (take 4 (drop 15 b)))
+  pub parts : {h : Halves} (q : Quantity) (ts bs cs : List Pair) → h ≡ halvesAt 6 2 (take 6 (drop 6 b)) 0 → goodTime ≡ true → q ≡ asQuantity (value (take 4 (drop 15 b)))
       → ts ≡ padded (pairsIn nt (drop 19 b)) → bs ≡ padded (pairsIn nb (drop (19 + 9 * nt) b)) → cs ≡ padded (pairsIn na (drop (19 + 9 * nt + 9 * nb) b))
       → Parts b nt nb na (h .first) (h .last) q (getD ts 0 noPair) bs cs
   parts {h} q ts bs cs e g p t u v =

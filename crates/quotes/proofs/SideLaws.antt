@@ -27,24 +27,34 @@ goodPair x = goodField 9 (take 5 x) && goodField 8 (take 4 (drop 5 x))
 abbrev pub pairIn : List ℕ → Pair
 pairIn x = pair (value (take 5 x)) (value (take 4 (drop 5 x)))
 
--- ---- one pair at a place
+-- ---- one pair in a part of the body
 module _ (b : List ℕ) (at : ℕ) (h : at + 9 ≤ length b) where
-  at-place : pairAt b at ≡ cond (goodPair (drop at b)) (PairField.Is (pairIn (drop at b))) PairField.Bad
+  -- the part that a pair takes
+  abbrev pairPart : List ℕ
+  pairPart = take (at + 9 - at) (drop at b)
+
+  part-is : take 9 (drop at b) ≡ pairPart
+  part-is = let e : 9 ≡ at + 9 - at = omega arith in ap (λ (n : ℕ). take n (drop at b)) e
+
+  at-place : pairAt pairPart 0 ≡ cond (goodPair (drop at b)) (PairField.Is (pairIn (drop at b))) PairField.Bad
   at-place =
       let x = drop at b in
-      let five : take 5 (take 9 x) ≡ take 5 x = take-take 5 9 x (omega arith) in
-      let four : drop 5 (take 9 x) ≡ take 4 (drop 5 x) = drop-take 5 4 x (rw length-drop (omega arith)) in
-      inside 9 at b (pairOf (take 9 (drop at b))) PairField.Bad h
+      let long : 9 ≤ length x = rw length-drop (omega arith) in
+      let nine : length (take 9 x) ≡ 9 = length-take-le 9 x long in
+      let five : take 5 (take 9 (take 9 x)) ≡ take 5 x = take-take 5 9 (take 9 x) (omega arith) ∙ take-take 5 9 x (omega arith) in
+      let four : drop 5 (take 9 (take 9 x)) ≡ take 4 (drop 5 x) = ap (drop 5) (take-take 9 9 x (omega arith)) ∙ drop-take 5 4 x (omega arith) in
+      ap (λ (l : List ℕ). pairAt l 0) (sym part-is)
+      ∙ inside 9 0 (take 9 x) (pairOf (take 9 (take 9 x))) PairField.Bad (omega arith)
       ∙ ap₂ (λ (p q : List ℕ). cond (goodField 9 p && goodField 8 q) (PairField.Is (pair (value p) (value q))) PairField.Bad) five four
 
-  pub pair-good : (p : Pair) → pairAt b at ≡ PairField.Is p → (goodPair (drop at b) ≡ true) × (p ≡ pairIn (drop at b))
+  pub pair-good : (p : Pair) → pairAt pairPart 0 ≡ PairField.Is p → (goodPair (drop at b) ≡ true) × (p ≡ pairIn (drop at b))
   pair-good p e = go (goodPair (drop at b)) (sym at-place ∙ e)
     where
       go : (t : Bool) → cond t (PairField.Is (pairIn (drop at b))) PairField.Bad ≡ PairField.Is p → (t ≡ true) × (p ≡ pairIn (drop at b))
       go true q = (refl, cc)
       go false q = (cc, cc)
 
-  pub pair-bad : pairAt b at ≡ PairField.Bad → goodPair (drop at b) ≡ false
+  pub pair-bad : pairAt pairPart 0 ≡ PairField.Bad → goodPair (drop at b) ≡ false
   pair-bad e = go (goodPair (drop at b)) (sym at-place ∙ e)
     where
       go : (t : Bool) → cond t (PairField.Is (pairIn (drop at b))) PairField.Bad ≡ PairField.Bad → t ≡ false

@@ -71,7 +71,9 @@ fn side_at(body: &[u8], at: usize, count: usize) -> Side
     let mut pairs = [no_pair(); 5];
     let mut i = 0;
     while i < count {
-        match Pair::from_digits(body, at + 9 * i) {
+        let a = at + 9 * i;
+        let e = a + 9;
+        match Pair::from_digits(&body[a..e], 0) {
             PairField::Is(p) => {
                 pairs[i] = p;
             }
@@ -134,11 +136,11 @@ fn packed_fields(body: &[u8], nt: usize, nb: usize, na: usize) -> Packed
     requires { ⌜ (nt ≤ 1) × (nb ≤ 5) × (na ≤ 5) × (length (now body) ≡ 19 + 9 * (nt + (nb + na))) ⌝ }
     ensures { λ r. ⌜ (r .good ≡ goodCells (sixCells (nt + (nb + na))) (now (body .entry))) × (r .good ≡ true → Parts (now (body .entry)) nt nb na (r .first) (r .last) (r .total) (r .trade) (r .bids) (r .asks)) ⌝ }
 {
-    let time = digits::halves::six_at(body, 6);
+    let time = digits::halves::six_at(&body[6..12], 0);
     if !time.good {
         return bad_digit();
     }
-    let total = Quantity::from_digits(body, 15);
+    let total = Quantity::from_digits(&body[15..19], 0);
     let QuantityField::Is(quantity) = total else {
         return bad_digit();
     };

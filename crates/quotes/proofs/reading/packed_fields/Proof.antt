@@ -15,20 +15,29 @@ use Rattle.quotes.proofs.reading.packed_fields.Statement.{statement}
 use Rattle.quotes.proofs.reading.packed_fields.Tie as tie
 
 -- what is known where each field has been read
-time-ok : (c : tie.Else1) → good (take 6 (drop 6 (c .before .before .before .before .args .body .now))) ≡ true
+time-ok : (c : tie.Else1) → good (take 6 (drop 6 (c .before .before .before .before .before .args .body .now))) ≡ true
 time-ok c =
-    let a = c .before .before .before .before .args in
+    let a = c .before .before .before .before .before .args in
     sym (time-flag (a .body .now) (a .nt) (a .nb) (a .na) (omega arith) (omega arith) (c .before .before .six-at .ensures)) ∙ not-false _ (c .if1 .left)
 
-total-ok : (c : tie.After-known-told) → goodField 8 (take 4 (drop 15 (c .before .before .before .before .before .before .before .before .args .body .now))) ≡ true
+total-ok : (c : tie.After-known-told) → goodField 8 (take 4 (drop 15 (c .before .before .before .before .before .before .before .before .before .before .args .body .now))) ≡ true
 total-ok c =
-    let a = c .before .before .before .before .before .before .before .before .args in
+    let a = c .before .before .before .before .before .before .before .before .before .before .args in
     total-good (a .body .now) (a .nt) (a .nb) (a .na) (omega arith) (omega arith) (c .before .total .given .0 .0)
     (sym (c .before .before .before .from-digits .ensures) ∙ c .before .total .given .1) .0
 
-trades-ok : (c : tie.Else2) → goodCells (pairCells (c .before .before .before .before .before .before .before .before .before .before .args .nt))
-    (drop 19 (c .before .before .before .before .before .before .before .before .before .before .args .body .now)) ≡ true
+trades-ok : (c : tie.Else2) → goodCells (pairCells (c .before .before .before .before .before .before .before .before .before .before .before .before .args .nt))
+    (drop 19 (c .before .before .before .before .before .before .before .before .before .before .before .before .args .body .now)) ≡ true
 trades-ok c = sym (c .before .side-at .ensures .0) ∙ not-false _ (c .if2 .left)
+
+sub-six-at : tie.Need-sub-six-at
+sub-six-at c = search needs
+
+part-six-at-start : tie.Need-part-six-at-start
+part-six-at-start c = omega arith
+
+part-six-at-end : tie.Need-part-six-at-end
+part-six-at-end c = omega arith
 
 six-at-requires : tie.Need-six-at-requires
 six-at-requires c κs = search needs
@@ -38,10 +47,19 @@ bad-digit-requires c κs = search needs
 
 returns : tie.Need-returns
 returns c =
-    let a = c .before .before .before .before .before .args in
+    let a = c .before .before .before .before .before .before .args in
     let flag = sym (time-flag (a .body .now) (a .nt) (a .nb) (a .na) (omega arith) (omega arith) (c .before .before .before .six-at .ensures)) in
     bad-digits (c .bad-digit .result .good) _ (c .bad-digit .ensures)
     (bad-time (a .body .now) (a .nt) (a .nb) (a .na) (omega arith) (omega arith) (flag ∙ not-true _ (c .before .if1 .taken)))
+
+sub-from-digits : tie.Need-sub-from-digits
+sub-from-digits c = search needs
+
+part-from-digits-start : tie.Need-part-from-digits-start
+part-from-digits-start c = omega arith
+
+part-from-digits-end : tie.Need-part-from-digits-end
+part-from-digits-end c = omega arith
 
 from-digits-requires : tie.Need-from-digits-requires
 from-digits-requires c κs = search needs
@@ -57,12 +75,13 @@ bad-digit-requires-2 c κs = search needs
 
 returns-2 : tie.Need-returns-2
 returns-2 c =
-    let e = c .before .before .before .before in
-    let a = e .before .before .before .before .args in
-    let bad = total-bad (a .body .now) (a .nt) (a .nb) (a .na) (omega arith) (omega arith)
+    let e = c .before .before .before .before .before in
+    let z = e .before .before .before .before .before in
+    let a = z .args in
+    let bad = total-bad (a .body .now) (a .nt) (a .nb) (a .na) (z .pre .0) (z .pre .3)
     (sym (c .before .before .before .from-digits .ensures) ∙ c .before .enum-told .given .1) in
     bad-digits (c .bad-digit2 .result .good) _ (c .bad-digit2 .ensures)
-    (bad-total (a .body .now) (a .nt) (a .nb) (a .na) (omega arith) (omega arith) (time-ok e) bad)
+    (bad-total (a .body .now) (a .nt) (a .nb) (a .na) (z .pre .0) (z .pre .3) (time-ok e) bad)
 
 side-at-requires : tie.Need-side-at-requires
 side-at-requires c κs = search needs
@@ -73,10 +92,11 @@ bad-digit-requires-3 c κs = search needs
 returns-3 : tie.Need-returns-3
 returns-3 c =
     let k = c .before .before .before in
-    let e = k .before .before .before .before in
-    let a = e .before .before .before .before .args in
+    let e = k .before .before .before .before .before in
+    let z = e .before .before .before .before .before in
+    let a = z .args in
     bad-digits (c .bad-digit3 .result .good) _ (c .bad-digit3 .ensures)
-    (bad-trades (a .body .now) (a .nt) (a .nb) (a .na) (omega arith) (omega arith) (time-ok e) (total-ok k)
+    (bad-trades (a .body .now) (a .nt) (a .nb) (a .na) (z .pre .0) (z .pre .3) (time-ok e) (total-ok k)
     (sym (c .before .before .side-at .ensures .0) ∙ not-true _ (c .before .if2 .taken)))
 
 mul-side-at : tie.Need-mul-side-at
@@ -95,10 +115,11 @@ returns-4 : tie.Need-returns-4
 returns-4 c =
     let g = c .before .before .before .before in
     let k = g .before .before in
-    let e = k .before .before .before .before in
-    let a = e .before .before .before .before .args in
+    let e = k .before .before .before .before .before in
+    let z = e .before .before .before .before .before in
+    let a = z .args in
     bad-digits (c .bad-digit4 .result .good) _ (c .bad-digit4 .ensures)
-    (sides-say (a .body .now) (a .nt) (a .nb) (a .na) (omega arith) (omega arith) (time-ok e) (total-ok k) (trades-ok g) false
+    (sides-say (a .body .now) (a .nt) (a .nb) (a .na) (z .pre .0) (z .pre .3) (time-ok e) (total-ok k) (trades-ok g) false
     (ap (λ (t : Bool). t && goodCells (pairCells (a .na)) (drop (19 + 9 * a .nt + 9 * a .nb) (a .body .now)))
     (sym (c .before .before .before .side-at2 .ensures .0) ∙ not-true _ (c .before .if3 .taken))))
 
@@ -125,10 +146,11 @@ returns-5 c =
     let f = c .before .before .before .before in
     let g = f .before .before .before in
     let k = g .before .before in
-    let e = k .before .before .before .before in
-    let a = e .before .before .before .before .args in
+    let e = k .before .before .before .before .before in
+    let z = e .before .before .before .before .before in
+    let a = z .args in
     bad-digits (c .bad-digit5 .result .good) _ (c .bad-digit5 .ensures)
-    (sides-say (a .body .now) (a .nt) (a .nb) (a .na) (omega arith) (omega arith) (time-ok e) (total-ok k) (trades-ok g) false
+    (sides-say (a .body .now) (a .nt) (a .nb) (a .na) (z .pre .0) (z .pre .3) (time-ok e) (total-ok k) (trades-ok g) false
     (ap₂ _&&_ (sym (f .before .before .side-at2 .ensures .0) ∙ not-false _ (f .if3 .left))
     (sym (c .before .before .before .side-at3 .ensures .0) ∙ not-true _ (c .before .if4 .taken))))
 
@@ -141,11 +163,12 @@ returns-6 c =
     let f = h .before .before .before in
     let g = f .before .before .before in
     let k = g .before .before in
-    let e = k .before .before .before .before in
-    let a = e .before .before .before .before .args in
+    let e = k .before .before .before .before .before in
+    let z = e .before .before .before .before .before in
+    let a = z .args in
     let q = k .before .total .given .0 .0 in
-    let one : a .nt ≤ 1 = omega arith in
-    let long : length (a .body .now) ≡ 19 + 9 * (a .nt + (a .nb + a .na)) = omega arith in
+    let one = z .pre .0 in
+    let long = z .pre .3 in
     let total-is = total-good (a .body .now) (a .nt) (a .nb) (a .na) one long q
     (sym (k .before .before .before .from-digits .ensures) ∙ k .before .total .given .1) .1 in
     let bids-ok = not-false _ (f .if3 .left) in
@@ -162,9 +185,15 @@ pub packed-fields-spec : {M : Type 1} → statement M
 packed-fields-spec =
     tie.close
     (tie.spec
+    sub-six-at
+    part-six-at-start
+    part-six-at-end
     six-at-requires
     bad-digit-requires
     returns
+    sub-from-digits
+    part-from-digits-start
+    part-from-digits-end
     from-digits-requires
     enum-known-total
     enum-told

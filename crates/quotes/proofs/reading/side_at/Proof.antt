@@ -26,11 +26,23 @@ loop-holds c =
     let a = c .before .before .args in
     rw (c .no-pair .ensures) (side-starts (a .body .now) (a .at) (a .count))
 
-mul-from-digits : tie.Need-mul-from-digits Inv-loop μ-loop
-mul-from-digits c = omega (arith, c .before .loop .inv .few)
+mul-a : tie.Need-mul-a Inv-loop μ-loop
+mul-a c = omega (arith, c .before .loop .inv .few)
 
-add-from-digits : tie.Need-add-from-digits Inv-loop μ-loop
-add-from-digits c = omega (arith, c .before .loop .inv .few)
+add-a : tie.Need-add-a Inv-loop μ-loop
+add-a c = omega (arith, c .before .loop .inv .few)
+
+add-e : tie.Need-add-e Inv-loop μ-loop
+add-e c = omega (arith, c .before .loop .inv .few)
+
+sub-from-digits : tie.Need-sub-from-digits Inv-loop μ-loop
+sub-from-digits c = omega arith
+
+part-from-digits-start : tie.Need-part-from-digits-start Inv-loop μ-loop
+part-from-digits-start c = omega arith
+
+part-from-digits-end : tie.Need-part-from-digits-end Inv-loop μ-loop
+part-from-digits-end c = omega (arith, c .before .loop .inv .few)
 
 from-digits-requires : tie.Need-from-digits-requires Inv-loop μ-loop
 from-digits-requires c κs = search needs
@@ -39,32 +51,32 @@ enum-known-p : tie.Need-enum-known-p Inv-loop μ-loop
 enum-known-p c = search needs
 
 mul-pairs : tie.Need-mul-pairs Inv-loop μ-loop
-mul-pairs c = omega (arith, c .before .before .before .before .before .loop .inv .few)
+mul-pairs c = omega (arith, c .before .before .before .before .before .before .loop .inv .few)
 
 array-set-from-pairs : tie.Need-array-set-from-pairs Inv-loop μ-loop
-array-set-from-pairs c = omega (arith, c .before .before .before .before .before .loop .inv .few)
+array-set-from-pairs c = omega (arith, c .before .before .before .before .before .before .loop .inv .few)
 
 enum-told : tie.Need-enum-told Inv-loop μ-loop
 enum-told c = search needs
 
 returns : tie.Need-returns Inv-loop μ-loop
 returns c =
-    let a = c .before .before .before .before .before .before .before .args in
-    let l = c .before .before .before .before .loop in
+    let a = c .before .before .before .before .before .before .before .before .args in
+    let l = c .before .before .before .before .before .loop in
     let b = a .body .now in
     let e = sym (c .before .before .from-digits .ensures) ∙ c .enum-told .given .1 in
     (side-bad b (a .at) (a .count) (l .pairs) (l .i) (l .inv) (omega arith) (pair-bad b (a .at + 9 * l .i) (omega arith) e), λ z. absurd (no-false z))
 
 add-i : tie.Need-add-i Inv-loop μ-loop
-add-i c = omega (arith, c .before .before .before .before .before .loop .inv .few)
+add-i c = omega (arith, c .before .before .before .before .before .before .loop .inv .few)
 
 loop-less : tie.Need-loop-less Inv-loop μ-loop
-loop-less c = omega (arith, c .before .before .before .before .before .loop .inv .few)
+loop-less c = omega (arith, c .before .before .before .before .before .before .loop .inv .few)
 
 loop-again : tie.Need-loop-again Inv-loop μ-loop
 loop-again c =
-    let a = c .before .before .before .before .before .before .before .before .args in
-    let l = c .before .before .before .before .before .loop in
+    let a = c .before .before .before .before .before .before .before .before .before .args in
+    let l = c .before .before .before .before .before .before .loop in
     let b = a .body .now in
     let p = c .before .p .given .0 .0 in
     let g = pair-good b (a .at + 9 * l .i) (omega arith) p (sym (c .before .before .before .from-digits .ensures) ∙ c .before .p .given .1) in
@@ -85,8 +97,12 @@ side-at-spec =
     μ-loop
     no-pair-requires
     loop-holds
-    mul-from-digits
-    add-from-digits
+    mul-a
+    add-a
+    add-e
+    sub-from-digits
+    part-from-digits-start
+    part-from-digits-end
     from-digits-requires
     enum-known-p
     mul-pairs
