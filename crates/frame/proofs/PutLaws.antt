@@ -15,6 +15,7 @@ use Rattle.digits.proofs.Bools.{and-left, and-right, and-both}
 use Rattle.digits.proofs.PackedLaws.{lt-width}
 use Rattle.digits.proofs.FieldLaws.{taken-sets}
 use Rattle.frame.specs.Cells.{digits, cellBytes, size, encode}
+use Rattle.frame.specs.Answers.{writtenNumber}
 use Rattle.frame.specs.Format.{around}
 use Rattle.frame.specs.Writing.{frameAround, bytesOver, writeAnswer, writtenOver, closable, closeAnswer, closedOver}
 use Rattle.frame.specs.Codec.{Codec, legal, frameOf}
@@ -89,6 +90,15 @@ module _ (ok : Bool) (f buf : List ℕ) where
     write-whole h =
         let w : leb (length f) (length buf) ≡ true = le-leb (length f) (length buf) (omega arith) in
         rw (e, w) (ap Done (sym long), ap (λ (k : ℕ). f ++ drop k buf) (sym long))
+
+-- the number of a writing's answer: 14 before 15
+pub written-number : (ok : Bool) (f buf : List ℕ) → writtenNumber (writeAnswer ok f buf) ≡ cond ok (cond (leb (length f) (length buf)) 0 15) 14
+written-number false f buf = refl
+written-number true f buf = go (leb (length f) (length buf))
+  where
+    go : (t : Bool) → writtenNumber (cond t (Done (length f)) NoRoom) ≡ cond t 0 15
+    go true = refl
+    go false = refl
 
 -- ---- a message of any format
 module _ {M : Type 0} (C : Codec M) (Shaped : M → Type 0) (law : Lawful C Shaped) (m : M) (s : Shaped m) (l : legal C m ≡ true) where

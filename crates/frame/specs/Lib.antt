@@ -6,3 +6,4 @@ pub mod Format
 pub mod Writing
 pub mod Codec
 pub mod Times
+pub mod Gathered

@@ -2,4 +2,5 @@
 pub mod ReadingLaws
 pub mod Trips
 pub mod EdgesHold
+pub mod MoreBytes
 pub mod Determined

@@ -1,0 +1,11 @@
+-- The exclusive-or of bytes while eight of them at a time are gathered in one number.
+use Prim.Native.Nat.{ℕ}
+use mathlib.Core.List.{List}
+use lib.Bits.{bitXor}
+use lib.ListN.{drop}
+use Rattle.digits.specs.Words.{bytes}
+use Rattle.frame.specs.Outline.{xorOf}
+
+-- the eight bytes of a number, and the bytes of a list from a place on
+unfoldable pub gathered : ℕ → ℕ → List ℕ → ℕ
+gathered x at l = bitXor (xorOf (bytes 8 x)) (xorOf (drop at l))
