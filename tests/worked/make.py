@@ -1,7 +1,7 @@
 #!/usr/bin/env python3
 """Makes crates/worked/stdin and crates/worked/stdout from the exchange's worked examples.
 
-The tables hold the fields as document 003 prints them. Each record's bytes and its expected line are
+The tables hold the fields as the exchange's specification B.12.07 prints them. Each record's bytes and its expected line are
 both made from those fields; no bytes are decoded here, and nothing is taken from the program's output.
 
 make.py           writes the two files
@@ -114,7 +114,7 @@ TWELVE = [
     (93, [("9902", "000045000", "000047000", "000044000", "000047000", "00002342", "999999999999"), END]),
 ]
 
-# Format five: document 01's 14 bytes, and a notice of our own.
+# Format five: the 14-byte notice of docs/RULES.md, and a notice of our own.
 FIVE = [(1, "09", ""), (2, "90", "Trading opens at 09:00")]
 NOTICE_01 = "1B 00 14 01 05 01 00 00 00 01 09 19 0D 0A"
 

@@ -14,6 +14,9 @@ use Rattle.frame.proofs.closing.close.Reads as creads
 use Rattle.frame.proofs.bytes.put_bytes as put
 use Rattle.frame.proofs.bytes.put_bytes.Kinds as pown
 use Rattle.frame.proofs.bytes.put_bytes.Reads as preads
+use Rattle.frame.proofs.rules.code_at as code
+use Rattle.frame.proofs.rules.code_at.Kinds as kown
+use Rattle.frame.proofs.rules.code_at.Reads as kreads
 use Rattle.frame.proofs.rules.code_right as right
 use Rattle.frame.proofs.rules.code_right.Kinds as rown
 use Rattle.frame.proofs.rules.code_right.Reads as rreads
@@ -59,3 +62,9 @@ pub determined-time-of-day : (κs : Lifetimes.Lfts 0) (a : World.ArgsD day.signa
     (s₁ s₂ : Clauses.AtExit (kinds.endedOf 0 down.ps down.r) κs) → dreads.Post κs a r₁ s₁ → dreads.Post κs a r₂ s₂
     → r₁ ≡ r₂
 determined-time-of-day κs a r₁ r₂ s₁ s₂ p q = p ∙ sym q
+
+-- what `code_at` gives
+pub determined-code-at : (κs : Lifetimes.Lfts 1) (a : World.ArgsD code.signature κs) (r₁ r₂ : World.ResD code.signature κs)
+    (s₁ s₂ : Clauses.AtExit (kinds.endedOf 1 kown.ps kown.r) κs) → kreads.Post κs a r₁ s₁ → kreads.Post κs a r₂ s₂
+    → r₁ ≡ r₂
+determined-code-at κs a r₁ r₂ s₁ s₂ p q = p ∙ sym q

@@ -1,22 +1,49 @@
 -- Laws of the shared rules: a test of every byte taken byte by byte, and a time of day at any width.
 use Prim.Native.Nat.{ℕ, suc, _+_, _*_, _/_, _%_, _^_, _≤_, _<_}
 use mathlib.Core.Path.{_≡_, refl, sym, ap, ap₂, _∙_}
-use mathlib.Core.Bool.{Bool, true, false, _&&_, and-false}
+use mathlib.Core.Bool.{Bool, true, false, cond, _&&_, and-false}
 use mathlib.Core.List.{List, [], _∷_}
 use native.Mathlib.Nat.{div-div-eq-div-mul, add-comm}
 use native.Mathlib.Numerals.{add-one}
 use native.Mathlib.Omega.{arith}
-use lib.ListN.{length, getD, drop, drop-of-length-le}
+use lib.ListN.{length, getD, take, drop, replicate, drop-of-length-le}
 use lib.Seq.{drop-cons}
 use lib.Pow.{pow-add}
 use lib.Dec.{leb, ltb, eqb}
 use borrow.Author.Tests.{lt-leb, le-leb, lt-ltb, le-ltb, ne-eqb, eq-eqb}
-use Rattle.frame.specs.Times.{timeOfDay, every, codeByte, codeRight, zeroCode}
+use Rattle.frame.specs.Times.{timeOfDay, every, codeAt, codeByte, codeRight, zeroCode}
 
 -- the next byte and those after it
 pub next-byte : (l : List ℕ) (i : ℕ) → i < length l → drop i l ≡ getD l i 0 ∷ drop (i + 1) l
 next-byte l i h = rw add-one (drop-cons l i 0 h)
 
+-- ---- a code
+-- one byte of a part, and the others
+part-next : (n : ℕ) (s : List ℕ) (at k : ℕ) → at + k < length s → take (suc n) (drop (at + k) s) ≡ getD s (at + k) 0 ∷ take n (drop (at + suc k) s)
+part-next n s at k h =
+    let e : suc (at + k) ≡ at + suc k = omega arith in
+    ap (take (suc n)) (drop-cons s (at + k) 0 h) ∙ ap (λ (j : ℕ). getD s (at + k) 0 ∷ take n (drop j s)) e
+
+-- the six bytes one by one
+pub six-bytes : (s : List ℕ) (at : ℕ) → at + 6 ≤ length s
+    → getD s at 0 ∷ getD s (at + 1) 0 ∷ getD s (at + 2) 0 ∷ getD s (at + 3) 0 ∷ getD s (at + 4) 0 ∷ getD s (at + 5) 0 ∷ [] ≡ take 6 (drop at s)
+six-bytes s at h =
+    let z : at + 0 ≡ at = omega arith in
+    sym (ap (λ (j : ℕ). take 6 (drop j s)) (sym z) ∙ part-next 5 s at 0 (omega arith) ∙ ap₂ (λ (j : ℕ) (l : List ℕ). getD s j 0 ∷ l) z
+    (part-next 4 s at 1 (omega arith) ∙ ap (λ (l : List ℕ). getD s (at + 1) 0 ∷ l)
+    (part-next 3 s at 2 (omega arith) ∙ ap (λ (l : List ℕ). getD s (at + 2) 0 ∷ l)
+    (part-next 2 s at 3 (omega arith) ∙ ap (λ (l : List ℕ). getD s (at + 3) 0 ∷ l)
+    (part-next 1 s at 4 (omega arith) ∙ ap (λ (l : List ℕ). getD s (at + 4) 0 ∷ l)
+    (part-next 0 s at 5 (omega arith)))))))
+
+module _ (s : List ℕ) (at : ℕ) where
+  pub code-in : at + 6 ≤ length s → codeAt s at ≡ take 6 (drop at s)
+  code-in h = ap (λ (t : Bool). cond t (take 6 (drop at s)) (replicate 6 0)) (le-leb (at + 6) (length s) h)
+
+  pub code-out : length s < at + 6 → replicate 6 0 ≡ codeAt s at
+  code-out h = sym (ap (λ (t : Bool). cond t (take 6 (drop at s)) (replicate 6 0)) (lt-leb (at + 6) (length s) h))
+
+-- ---- a test of every byte
 module _ (p : ℕ → Bool) (l : List ℕ) (i : ℕ) where
   next : i < length l → every p (drop i l) ≡ p (getD l i 0) && every p (drop (i + 1) l)
   next h = ap (every p) (next-byte l i h)

@@ -1,7 +1,8 @@
 -- Times and codes: rules on the numbers that cells hold.
 use Prim.Native.Nat.{ℕ, _+_, _-_, _/_, _%_, _^_}
-use mathlib.Core.Bool.{Bool, true, false, _&&_}
+use mathlib.Core.Bool.{Bool, true, false, cond, _&&_}
 use mathlib.Core.List.{List, [], _∷_}
+use lib.ListN.{length, take, drop, replicate}
 use lib.Dec.{eqb, leb, ltb}
 
 -- a time of day: hours 00-23, minutes and seconds 00-59, then k digits of a free fraction
@@ -16,6 +17,10 @@ nines k = 10 ^ (k + 6) - 1
 abbrev pub every : (ℕ → Bool) → List ℕ → Bool
 every p [] = true
 every p (b ∷ bs) = p b && every p bs
+
+-- the six bytes of a code at a place; past the end there are none, and zeros stand for them
+abbrev pub codeAt : List ℕ → ℕ → List ℕ
+codeAt s at = cond (leb (at + 6) (length s)) (take 6 (drop at s)) (replicate 6 0)
 
 -- a code's bytes are 32 to 126
 abbrev pub codeByte : ℕ → Bool

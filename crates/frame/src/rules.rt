@@ -1,6 +1,19 @@
 // Rules that several formats share: a code's bytes, and a time of day.
 ghost use mathlib.Core.Path.{_≡_};
-ghost use Rattle.frame.specs.Times.{timeOfDay, codeRight, zeroCode};
+ghost use Rattle.frame.specs.Times.{timeOfDay, codeAt, codeRight, zeroCode};
+
+// The six bytes of a code from a place on; zeros where they run past the end.
+pub fn code_at(s: &[u8], at: usize) -> [u8; 6]
+    ensures { λ r. ⌜ r ≡ codeAt (now (s .entry)) at ⌝ }
+{
+    if s.len() < 6 {
+        return [0; 6];
+    }
+    if s.len() - 6 < at {
+        return [0; 6];
+    }
+    [s[at], s[at + 1], s[at + 2], s[at + 3], s[at + 4], s[at + 5]]
+}
 
 // Every byte of a code is 32 to 126.
 pub fn code_right(code: &[u8]) -> bool

@@ -38,17 +38,6 @@ three-bytes bs l = go (good bs) refl
     go true g = lt-ltb (value bs) (10 ^ 6) (subst (λ (n : ℕ). value bs < 100 ^ n) l (value-lt bs g))
     go false g = refl
 
--- the first six bytes, one by one
-pub first-six : (b : List ℕ) → 6 ≤ length b
-    → getD b 0 0 ∷ getD b 1 0 ∷ getD b 2 0 ∷ getD b 3 0 ∷ getD b 4 0 ∷ getD b 5 0 ∷ [] ≡ take 6 b
-first-six [] h = absurd (omega arith)
-first-six (a ∷ []) h = absurd (omega arith)
-first-six (a ∷ b ∷ []) h = absurd (omega arith)
-first-six (a ∷ b ∷ c ∷ []) h = absurd (omega arith)
-first-six (a ∷ b ∷ c ∷ d ∷ []) h = absurd (omega arith)
-first-six (a ∷ b ∷ c ∷ d ∷ e ∷ []) h = absurd (omega arith)
-first-six (a ∷ b ∷ c ∷ d ∷ e ∷ f ∷ l) h = refl
-
 -- a halt is its four parts
 same-halt : (m : Halt) (n : ℕ) (code : List ℕ) (event : Event) (state : Sending) → m .seq ≡ n → m .code ≡ code → m .event ≡ event → m .state ≡ state
     → m ≡ record { seq = n; code = code; event = event; state = state }

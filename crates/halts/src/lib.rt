@@ -15,6 +15,7 @@ use frame::answer::Answer;
 use frame::answer::Frame;
 use frame::answer::Written;
 use frame::bytes::put_bytes;
+use frame::rules::code_at;
 use frame::rules::code_right;
 use frame::rules::time_of_day;
 
@@ -193,14 +194,6 @@ fn halt_of(seq: u32, code: [u8; 6], h: u32, r: u32, s: u8) -> Halt
     }
 }
 
-// The first six bytes.
-fn code_of(body: &[u8]) -> [u8; 6]
-    requires { ⌜ 6 ≤ length (now body) ⌝ }
-    ensures { λ r. ⌜ r ≡ take 6 (now (body .entry)) ⌝ }
-{
-    [body[0], body[1], body[2], body[3], body[4], body[5]]
-}
-
 // The empty halt, which stands beside a refusal.
 pub fn empty() -> Halt
     ensures { λ r. ⌜ r ≡ noHalt ⌝ }
@@ -243,7 +236,7 @@ pub fn read(body: &[u8], seq: u32) -> HaltReading
     if !times_right(h, r) {
         return refused(12, 26);
     }
-    let code = code_of(body);
+    let code = code_at(body, 0);
     let s = body[12];
     if !code_fits(&code, h, r) {
         return refused(13, 26);

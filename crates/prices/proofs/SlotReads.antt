@@ -31,23 +31,6 @@ part n s at = take n (drop at s)
 length-part : (n : ℕ) (s : List ℕ) (at : ℕ) → at + n ≤ length s → length (part n s at) ≡ n
 length-part n s at h = length-take-le n (drop at s) (rw length-drop (omega arith))
 
--- ---- six bytes, one by one
-next-byte : (n : ℕ) (s : List ℕ) (at k : ℕ) → at + k < length s → part (suc n) s (at + k) ≡ getD s (at + k) 0 ∷ part n s (at + suc k)
-next-byte n s at k h =
-    let e : suc (at + k) ≡ at + suc k = omega arith in
-    ap (take (suc n)) (drop-cons s (at + k) 0 h) ∙ ap (λ (j : ℕ). getD s (at + k) 0 ∷ take n (drop j s)) e
-
-pub six-bytes : (s : List ℕ) (at : ℕ) → at + 6 ≤ length s
-    → getD s at 0 ∷ getD s (at + 1) 0 ∷ getD s (at + 2) 0 ∷ getD s (at + 3) 0 ∷ getD s (at + 4) 0 ∷ getD s (at + 5) 0 ∷ [] ≡ part 6 s at
-six-bytes s at h =
-    let z : at + 0 ≡ at = omega arith in
-    sym (ap (λ (j : ℕ). part 6 s j) (sym z) ∙ next-byte 5 s at 0 (omega arith) ∙ ap₂ (λ (j : ℕ) (l : List ℕ). getD s j 0 ∷ l) z
-    (next-byte 4 s at 1 (omega arith) ∙ ap (λ (l : List ℕ). getD s (at + 1) 0 ∷ l)
-    (next-byte 3 s at 2 (omega arith) ∙ ap (λ (l : List ℕ). getD s (at + 2) 0 ∷ l)
-    (next-byte 2 s at 3 (omega arith) ∙ ap (λ (l : List ℕ). getD s (at + 3) 0 ∷ l)
-    (next-byte 1 s at 4 (omega arith) ∙ ap (λ (l : List ℕ). getD s (at + 4) 0 ∷ l)
-    (next-byte 0 s at 5 (omega arith)))))))
-
 -- ---- what a field's call tells
 module _ (s : List ℕ) (at : ℕ) where
   pub price-bad : at + 5 ≤ length s → priceAt s at ≡ PriceField.Bad → goodField 9 (part 5 s at) ≡ false

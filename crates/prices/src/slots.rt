@@ -11,6 +11,7 @@ use digits::amounts::PriceField;
 use digits::amounts::Quantity;
 use digits::amounts::QuantityField;
 use digits::halves::six_at;
+use frame::rules::code_at;
 
 // The bytes of a slot.
 const SLOT: usize = 36;
@@ -57,21 +58,6 @@ fn bad_slot() -> SlotField
 {
     let slot = no_slot();
     SlotField { good: false, slot }
-}
-
-// The six bytes of a code.
-fn code_at(body: &[u8], at: usize) -> [u8; 6]
-    requires { ⌜ at + 6 ≤ length (now body) ⌝ }
-    ensures { λ r. ⌜ r ≡ take 6 (drop at (now (body .entry))) ⌝ }
-{
-    [
-        body[at],
-        body[at + 1],
-        body[at + 2],
-        body[at + 3],
-        body[at + 4],
-        body[at + 5],
-    ]
 }
 
 // The 36 bytes of a slot.

@@ -18,6 +18,7 @@ use Rattle.frame.specs.Rows.{firstFail}
 use Rattle.frame.specs.Format.{valuesOf, ranged, bodyRows, around}
 use Rattle.frame.specs.Times.{timeOfDay, nines, zeroCode, codeRight}
 use Rattle.frame.proofs.CellLaws.{length-decode}
+use Rattle.frame.proofs.RuleLaws.{six-bytes}
 use Rattle.quotes.specs.declared.quote.Quote.{Quote}
 use Rattle.quotes.specs.declared.quote.QuoteReading.{QuoteReading}
 use Rattle.quotes.specs.Quotes.{trades, bidLevels, askLevels, pairCount, pairCells, sixCells, codeOf, timeOf, revealOf, sixLevels, sixTimed, sixRuled, six, noPair, pairsOf, pairsIn, padded, tradePart, bidPart, askPart, quoteOf, quoteReading}
@@ -25,7 +26,7 @@ use Rattle.quotes.specs.Steps.{refusedReading, acceptedReading, Dictated
 use Rattle.quotes.proofs.PairLaws.{length-pairsOf, length-pairCells, first-part, second-part, third-part}
 use Rattle.quotes.proofs.QuoteLaws.{quoteWith, reveal-read}
 use Rattle.quotes.proofs.SideLaws.{pairs-append}
-use Rattle.quotes.proofs.ReadLaws.{size-six, code-six, time-six, limit-six, status-six, total-six, pairs-six, six-bytes, reading-by}
+use Rattle.quotes.proofs.ReadLaws.{size-six, code-six, time-six, limit-six, status-six, total-six, pairs-six, reading-by}
 
 -- ---- a length outside the range
 module _ (seq : ℕ) (b : List ℕ) where
@@ -93,7 +94,7 @@ module _ (seq : ℕ) (b : List ℕ) (nt nb na : ℕ) (one : nt ≤ 1) (d : Dicta
       (size-six (pairCount (getD b 12 0)) b ∙ ap (λ (x : ℕ). 19 + 9 * x) count-is ∙ sym (d .as-long))
 
   code-is : codeOf (valuesOf six b) ≡ take 6 b
-  code-is = code-six (pairCount (getD b 12 0)) b (omega (arith, low)) ∙ sym (six-bytes b (omega (arith, low)))
+  code-is = code-six (pairCount (getD b 12 0)) b (omega (arith, low)) ∙ six-bytes b 0 (omega (arith, low))
 
   time-is : timeOf (valuesOf six b) ≡ value (take 6 (drop 6 b))
   time-is = time-six (pairCount (getD b 12 0)) b

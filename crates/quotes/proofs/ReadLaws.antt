@@ -104,15 +104,6 @@ module _ (n : ℕ) (b : List ℕ) where
   pub pairs-six : pairsOf (drop 11 (decode (sixCells n) b)) ≡ pairsIn n (drop 19 b)
   pairs-six = ap (pairsIn n) (place-19 b)
 
-pub six-bytes : (b : List ℕ) → 6 ≤ length b → take 6 b ≡ getD b 0 0 ∷ getD b 1 0 ∷ getD b 2 0 ∷ getD b 3 0 ∷ getD b 4 0 ∷ getD b 5 0 ∷ []
-six-bytes (a ∷ c ∷ d ∷ e ∷ f ∷ g ∷ l) h = refl
-six-bytes [] h = absurd (omega arith)
-six-bytes (a ∷ []) h = absurd (omega arith)
-six-bytes (a ∷ c ∷ []) h = absurd (omega arith)
-six-bytes (a ∷ c ∷ d ∷ []) h = absurd (omega arith)
-six-bytes (a ∷ c ∷ d ∷ e ∷ []) h = absurd (omega arith)
-six-bytes (a ∷ c ∷ d ∷ e ∷ f ∷ []) h = absurd (omega arith)
-
 -- ---- the reading from the number of the first row that fails
 module _ (seq : ℕ) (b : List ℕ) where
   abbrev frame : Frame

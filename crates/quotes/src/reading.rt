@@ -170,20 +170,12 @@ fn packed_fields(body: &[u8], nt: usize, nb: usize, na: usize) -> Packed
     }
 }
 
-// The code of a body.
-fn code_of(body: &[u8]) -> [u8; 6]
-    requires { ⌜ 6 ≤ length (now body) ⌝ }
-    ensures { λ r. ⌜ r ≡ take 6 (now (body .entry)) ⌝ }
-{
-    [body[0], body[1], body[2], body[3], body[4], body[5]]
-}
-
 // The quote of a body that passes every row.
 fn accepted(body: &[u8], seq: u32, p: Packed) -> QuoteReading
     requires { ⌜ (19 ≤ length (now body)) × (p .first < 10000) × (p .last < 100000000) ⌝ }
     ensures { λ r. ⌜ r ≡ acceptedReading seq (now (body .entry)) (p .first * 100000000 + p .last) (p .total) (p .trade) (p .bids) (p .asks) ⌝ }
 {
-    let code = code_of(body);
+    let code = frame::rules::code_at(body, 0);
     let total = p.total;
     let trade = p.trade;
     let bids = p.bids;

@@ -14,6 +14,7 @@ use Rattle.halts.proofs.ReadLaws.{refused-as, wrong-length, bad-halt, b
 use borrow.Author.Needs.{needs}
 use Rattle.halts.proofs.read.Statement.{statement}
 use Rattle.halts.proofs.read.Tie as tie
+use Rattle.frame.proofs.RuleLaws.{code-in}
 
 -- ---- where both times are read: the body, its times, and what is known of them
 abbrev bytes : tie.After-known-told2 → List ℕ
@@ -96,8 +97,8 @@ returns-4 c =
     let t : timesRight (halt-at k) (resume-at k) ≡ false = sym (c .before .before .times-right .ensures) ∙ not-true _ (c .before .if2 .taken) in
     refused-as s (bytes k) 12 refl refl (wrong-times (bytes k) (long k) (halt-at k) (resume-at k) (halt-read k) (resume-read k) t) 26 (omega (arith, long k)) (c .refused4 .result) (c .refused4 .ensures)
 
-code-of-requires : tie.Need-code-of-requires
-code-of-requires c κs = search needs
+code-at-requires : tie.Need-code-at-requires
+code-at-requires c κs = search needs
 
 shared-slice-read-s : tie.Need-shared-slice-read-s
 shared-slice-read-s c = search needs
@@ -117,7 +118,7 @@ returns-5 c =
     let s = c .before .before .before .before .before .before .before .before .before .before .before .before .before .before .before .before .before .before .args .seq in
     let t : timesRight (halt-at k) (resume-at k) ≡ true = sym (c .before .before .before .before .before .before .before .times-right .ensures) ∙ not-false _ (c .before .before .before .before .before .before .if2 .left) in
     let f : codeFits (take 6 (bytes k)) (halt-at k) (resume-at k) ≡ false =
-    ap (λ (x : List ℕ). codeFits x (halt-at k) (resume-at k)) (sym (c .before .before .before .before .before .code-of .ensures)) ∙ sym (c .before .before .code-fits .ensures) ∙ not-true _ (c .before .if3 .taken) in
+    ap (λ (x : List ℕ). codeFits x (halt-at k) (resume-at k)) (sym (c .before .before .before .before .before .code-at .ensures ∙ code-in (bytes k) 0 (omega (arith, long k)))) ∙ sym (c .before .before .code-fits .ensures) ∙ not-true _ (c .before .if3 .taken) in
     refused-as s (bytes k) 13 refl refl (wrong-code (bytes k) (long k) (halt-at k) (resume-at k) (halt-read k) (resume-read k) t f) 26 (omega (arith, long k)) (c .refused5 .result) (c .refused5 .ensures)
 
 state-right-requires : tie.Need-state-right-requires
@@ -142,12 +143,12 @@ returns-7 c =
     let k = c .before .before .before .before .before .before .before .before .before .before in
     let s = c .before .before .before .before .before .before .before .before .before .before .before .before .before .before .before .before .before .before .before .before .args .seq in
     let t : timesRight (halt-at k) (resume-at k) ≡ true = sym (c .before .before .before .before .before .before .before .before .before .times-right .ensures) ∙ not-false _ (c .before .before .before .before .before .before .before .before .if2 .left) in
-    let e : c .before .before .before .before .before .before .before .code-of .result ≡ take 6 (bytes k) = c .before .before .before .before .before .before .before .code-of .ensures in
+    let e : c .before .before .before .before .before .before .before .code-at .result ≡ take 6 (bytes k) = c .before .before .before .before .before .before .before .code-at .ensures ∙ code-in (bytes k) 0 (omega (arith, long k)) in
     let f : codeFits (take 6 (bytes k)) (halt-at k) (resume-at k) ≡ true =
     ap (λ (x : List ℕ). codeFits x (halt-at k) (resume-at k)) (sym e) ∙ sym (c .before .before .before .before .code-fits .ensures) ∙ not-false _ (c .before .before .before .if3 .left) in
     let q : stateRight (getD (bytes k) 12 0) ≡ true = sym (c .before .before .state-right .ensures) ∙ not-false _ (c .before .if4 .left) in
     let g = c .halt-of .ensures in
-    accepted-as (bytes k) (long k) (halt-at k) (resume-at k) (halt-read k) (resume-read k) t s f q (c .halt-of .result) (c .before .before .before .before .before .before .before .code-of .result) e
+    accepted-as (bytes k) (long k) (halt-at k) (resume-at k) (halt-read k) (resume-read k) t s f q (c .halt-of .result) (c .before .before .before .before .before .before .before .code-at .result) e
     (g .0) (g .1) (g .2) (g .3)
 
 pub read-spec : {M : Type 1} → statement M
@@ -170,7 +171,7 @@ read-spec =
     times-right-requires
     refused-requires-4
     returns-4
-    code-of-requires
+    code-at-requires
     shared-slice-read-s
     slice-aggregate-code-fits
     code-fits-requires

@@ -12,6 +12,7 @@ use Rattle.prices.proofs.AndLaws.{later, none}
 use Rattle.prices.proofs.SlotReads.{part, price-bad, price-is, quantity-bad, quantity-is, time-good, time-value, slot-good, slot-bad, slot-is}
 use Rattle.prices.proofs.slots.slot_at.Statement.{statement}
 use Rattle.prices.proofs.slots.slot_at.Tie as tie
+use Rattle.frame.proofs.RuleLaws.{code-in}
 
 -- where the function starts, from behind each field
 abbrev s1 : tie.After-known-told → tie.Start
@@ -197,7 +198,7 @@ six-at-requires : tie.Need-six-at-requires
 six-at-requires c κs = search needs
 
 code-at-requires : tie.Need-code-at-requires
-code-at-requires c κs = omega (arith, s5 (c .before .before) .pre)
+code-at-requires c κs = search needs
 
 cast-time : tie.Need-cast-time
 cast-time c = search needs
@@ -219,7 +220,7 @@ returns-6 c =
     let t = c .before .before .before .before .before in
     let o = s5 t in
     let h = c .before .before .before .before .six-at in
-    slot-is (o .args .body .now) (o .args .at) (o .pre) (c .before .before .code-at .ensures)
+    slot-is (o .args .body .now) (o .args .at) (o .pre) (c .before .before .code-at .ensures ∙ code-in (o .args .body .now) (o .args .at) (omega (arith, o .pre)))
     (is-opening (b2 (b3 (b4 (b5 t))))) (is-highest (b3 (b4 (b5 t)))) (is-lowest (b4 (b5 t))) (is-last (b5 t)) (is-total t)
     (sym (time-good (o .args .body .now) (o .args .at + 30) (omega (arith, o .pre))) ∙ sym (ap (λ (x : Halves). x .good) (h .ensures)) ∙ c .before .before .before .if1 .taken)
     (ap (λ (x : Halves). x .first * 100000000 + x .last) (h .ensures) ∙ time-value (o .args .body .now) (o .args .at + 30) (omega (arith, o .pre)))

@@ -1,13 +1,15 @@
 -- `reading::accepted` meets its contract.
+use mathlib.Core.Path.{_∙_}
+use native.Mathlib.Omega.{arith}
+use Rattle.frame.proofs.RuleLaws.{code-in}
 use borrow.Author.Needs.{needs}
 use Rattle.quotes.proofs.reading.accepted.Statement.{statement}
 use Rattle.quotes.proofs.reading.accepted.Tie as tie
 use Rattle.quotes.proofs.reading.accepted.Reads as reads
 use Rattle.quotes.proofs.reading.accepted.Lts as lts
-use Rattle.quotes.proofs.reading.code_of.Reads as code-of-reads
 
-code-of-requires : tie.Need-code-of-requires
-code-of-requires c κs = search needs
+code-at-requires : tie.Need-code-at-requires
+code-at-requires c κs = search needs
 
 add-t10 : tie.Need-add-t10
 add-t10 c = search needs
@@ -34,13 +36,16 @@ shared-slice-read-t22 : tie.Need-shared-slice-read-t22
 shared-slice-read-t22 c = search needs
 
 returns : tie.Need-returns
-returns c = rw (c .before .before .before .before .before .before .before .before .before .code-of .ensures)
+returns c =
+    let k = c .before .before .before .before .before .before .before .before .before in
+    let z = k .before .before in
+    rw (k .code-at .ensures ∙ code-in (z .args .body .now) 0 (omega (arith, z .pre .0)))
 
 pub accepted-spec : {M : Type 1} → statement M
 accepted-spec =
     tie.close
     (tie.spec
-    code-of-requires
+    code-at-requires
     add-t10
     cast-t13
     mul-t14
