@@ -4,6 +4,9 @@ use contract.Lifetimes
 use borrow.Fn.World
 use borrow.Fn.Kinds as kinds
 use denote.Triple.Clauses
+use Rattle.digits.proofs.check.xor_of as xor
+use Rattle.digits.proofs.check.xor_of.Kinds as xor-kinds
+use Rattle.digits.proofs.check.xor_of.Reads as xor-reads
 use Rattle.digits.proofs.halves.eight_at as eight
 use Rattle.digits.proofs.halves.eight_at.Kinds as eight-kinds
 use Rattle.digits.proofs.halves.eight_at.Reads as eight-reads
@@ -22,6 +25,10 @@ use Rattle.digits.proofs.amounts.Quantity.from_digits.Reads as quantity
 use Rattle.digits.proofs.amounts.Pair.from_digits as pair
 use Rattle.digits.proofs.amounts.Pair.from_digits.Kinds as pair-kinds
 use Rattle.digits.proofs.amounts.Pair.from_digits.Reads as pair-reads
+
+pub determined-xor-of : (κs : Lifetimes.Lfts 1) (a : World.ArgsD xor.signature κs) (r₁ r₂ : World.ResD xor.signature κs)
+    (s₁ s₂ : Clauses.AtExit (kinds.endedOf 1 xor-kinds.ps xor-kinds.r) κs) → xor-reads.Post κs a r₁ s₁ → xor-reads.Post κs a r₂ s₂ → r₁ ≡ r₂
+determined-xor-of κs a r₁ r₂ s₁ s₂ p q = p ∙ sym q
 
 pub determined-eight-at : (κs : Lifetimes.Lfts 1) (a : World.ArgsD eight.signature κs) (r₁ r₂ : World.ResD eight.signature κs)
     (s₁ s₂ : Clauses.AtExit (kinds.endedOf 1 eight-kinds.ps eight-kinds.r) κs) → eight-reads.Post κs a r₁ s₁ → eight-reads.Post κs a r₂ s₂ → r₁ ≡ r₂

@@ -6,6 +6,7 @@ pub mod Values
 pub mod Lanes
 pub mod Leaf
 pub mod Loads
+pub mod XorLaws
 pub mod Places
 pub mod Readings
 pub mod Within

@@ -4,6 +4,7 @@ ghost use Prim.Native.Nat.{_+_, _≤_};
 ghost use lib.ListN.{length, take, drop};
 ghost use Rattle.digits.specs.Words.{bytes};
 ghost use Rattle.digits.specs.Halves.{halvesOf, noHalves, halvesAt};
+use super::words::eight;
 use super::words::four;
 use super::words::two;
 
@@ -64,7 +65,7 @@ pub(crate) fn eight_in(s: &[u8], at: usize) -> Halves
     requires { ⌜ at + 8 ≤ length (now s) ⌝ }
     ensures { λ r. ⌜ r ≡ halvesOf 4 (take 8 (drop at (now (s .entry)))) ⌝ }
 {
-    digits(four(s, at) + four(s, at + 4) * 4294967296)
+    digits(eight(s, at))
 }
 
 // Four bytes: all of them are the last four.

@@ -5,7 +5,7 @@ ghost use lib.ListN.{length, take, drop};
 ghost use Rattle.digits.specs.Words.{bytes};
 
 // A byte as a number of 64 bits.
-fn wide(b: u8) -> u64
+pub(crate) fn wide(b: u8) -> u64
     ensures { λ r. ⌜ (r ≡ b) × (r < 256) ⌝ }
 {
     b as u64
@@ -25,4 +25,12 @@ pub(crate) fn four(s: &[u8], at: usize) -> u64
     ensures { λ r. ⌜ (r < 4294967296) × (bytes 4 r ≡ take 4 (drop at (now (s .entry)))) ⌝ }
 {
     two(s, at) + two(s, at + 2) * 65536
+}
+
+// Eight bytes.
+pub(crate) fn eight(s: &[u8], at: usize) -> u64
+    requires { ⌜ at + 8 ≤ length (now s) ⌝ }
+    ensures { λ r. ⌜ (r < 18446744073709551616) × (bytes 8 r ≡ take 8 (drop at (now (s .entry)))) ⌝ }
+{
+    four(s, at) + four(s, at + 4) * 4294967296
 }

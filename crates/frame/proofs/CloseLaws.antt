@@ -11,7 +11,8 @@ use Rattle.digits.specs.Packed.{packed}
 use Rattle.digits.specs.Fields.{putAt}
 use Rattle.digits.proofs.FieldLaws.{put-fits}
 use Rattle.frame.specs.Cells.{encode}
-use Rattle.frame.specs.Outline.{headCells, xorOf}
+use Rattle.digits.specs.Check.{xorOf}
+use Rattle.frame.specs.Outline.{headCells}
 use Rattle.frame.specs.Format.{around}
 use Rattle.frame.specs.Writing.{sealed, headValues, closable, closeAnswer, closedOver}
 use Rattle.frame.specs.declared.answer.Written.the-variants.{Done, Illegal, NoRoom}

@@ -5,7 +5,6 @@ pub mod RowLaws
 pub mod OutlineLaws
 pub mod FormatLaws
 pub mod CodecLaws
-pub mod XorLaws
 pub mod CloseLaws
 pub mod WholeLaws
 pub mod LengthSteps

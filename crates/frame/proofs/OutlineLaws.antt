@@ -13,7 +13,8 @@ use Rattle.digits.proofs.PackedLaws.{length-packed, value-field-packed, good-fi
 use Rattle.digits.proofs.Bools.{and-left, and-right, and-both}
 use Rattle.frame.specs.Cells.{Cell, raw, digits, size, goodCells, decode, fits, encode}
 use Rattle.frame.specs.Rows.{Row, must, firstFail}
-use Rattle.frame.specs.Outline.{business, format, version, number, lengthBytes, lengthOf, own, inner, body, kindCells, headCells, kindValues, xorOf, checkByte, ended, lengthRight, outlineRows}
+use Rattle.digits.specs.Check.{xorOf}
+use Rattle.frame.specs.Outline.{business, format, version, number, lengthBytes, lengthOf, own, inner, body, kindCells, headCells, kindValues, checkByte, ended, lengthRight, outlineRows}
 use Rattle.frame.specs.Format.{around}
 use Rattle.frame.specs.Writing.{sealed, headValues, frameAround}
 use Rattle.frame.proofs.CellLaws.{length-encode, good-encode, decode-encode, encode-decode}

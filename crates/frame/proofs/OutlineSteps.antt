@@ -16,7 +16,8 @@ use Rattle.digits.proofs.PackedLaws.{two-lt}
 use Rattle.frame.specs.Cells.{goodCells, decode}
 use Rattle.frame.specs.Rows.{Row, must, firstFail}
 use Rattle.frame.specs.Answers.{named}
-use Rattle.frame.specs.Outline.{lengthBytes, lengthOf, own, inner, kindCells, xorOf, checkByte, ended, lengthRight, outlineRows, headOf, outlineOf}
+use Rattle.digits.specs.Check.{xorOf}
+use Rattle.frame.specs.Outline.{lengthBytes, lengthOf, own, inner, kindCells, checkByte, ended, lengthRight, outlineRows, headOf, outlineOf}
 use Rattle.frame.specs.declared.answer.Answer.the-variants.{NoFrame, Refused}
 use Rattle.frame.specs.declared.answer.Outline.the-variants.{Whole, Not}
 use Rattle.frame.proofs.OutlineLaws.{length-bytes-taken}

@@ -6,4 +6,3 @@ pub mod Format
 pub mod Writing
 pub mod Codec
 pub mod Times
-pub mod Gathered

@@ -3,8 +3,8 @@ use Prim.Native.Nat.{ℕ, _+_, _-_, _*_}
 use mathlib.Core.Bool.{Bool, true, false, cond, _&&_}
 use mathlib.Core.List.{List, [], _∷_, _++_}
 use lib.ListN.{length, getD, take, drop}
-use lib.Bits.{bitXor}
 use lib.Dec.{eqb, leb}
+use Rattle.digits.specs.Check.{xorOf}
 use Rattle.digits.specs.Packed.{goodField, value}
 use Rattle.frame.specs.Cells.{Cell, digits, goodCells, decode}
 use Rattle.frame.specs.Rows.{Row, must, firstFail}
@@ -55,11 +55,6 @@ version f = getD (kindValues f) 2 0
 
 abbrev pub number : List ℕ → ℕ
 number f = getD (kindValues f) 3 0
-
--- the exclusive-or of bytes
-abbrev pub xorOf : List ℕ → ℕ
-xorOf [] = 0
-xorOf (b ∷ bs) = bitXor b (xorOf bs)
 
 -- the check byte and the last two bytes
 abbrev pub checkByte : List ℕ → ℕ

@@ -6,7 +6,8 @@ use lib.ListN.{length, take, drop}
 use lib.Seq.{sets}
 use lib.Dec.{leb, ltb}
 use Rattle.frame.specs.Cells.{Cell, encode, size}
-use Rattle.frame.specs.Outline.{headCells, xorOf}
+use Rattle.digits.specs.Check.{xorOf}
+use Rattle.frame.specs.Outline.{headCells}
 use Rattle.frame.specs.Format.{Format, around}
 use Rattle.frame.specs.declared.answer.Written.{Written}
 use Rattle.frame.specs.declared.answer.Written.the-variants.{Done, Illegal, NoRoom}

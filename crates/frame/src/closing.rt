@@ -7,7 +7,7 @@ ghost use Rattle.frame.specs.Cells.{encode};
 ghost use Rattle.frame.specs.Outline.{headCells};
 ghost use Rattle.frame.specs.Writing.{headValues, closeAnswer, closedOver};
 use crate::answer::Written;
-use crate::check::xor_of;
+use digits::check::xor_of;
 use digits::fields::write;
 
 // The largest numbers that a format or a version, and a frame's number, can be.

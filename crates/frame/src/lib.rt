@@ -2,7 +2,6 @@
 // It knows no format's body.
 pub mod answer;
 pub mod bytes;
-mod check;
 pub mod closing;
 pub mod outline;
 pub mod rules;

@@ -8,7 +8,7 @@ ghost use Rattle.frame.specs.Outline.{lengthOf, lengthRight, outlineOf};
 use crate::answer::Answer;
 use crate::answer::Head;
 use crate::answer::Outline;
-use crate::check::xor_of;
+use digits::check::xor_of;
 use digits::halves::eight_at;
 
 // The length that a frame's second and third byte give; 0 where they give none.

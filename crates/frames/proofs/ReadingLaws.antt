@@ -18,6 +18,7 @@ use Rattle.frame.specs.declared.answer.Frame.{Frame}
 use Rattle.frame.specs.declared.answer.Answer.{Answer}
 use Rattle.frame.specs.declared.answer.Answer.the-variants.{Refused}
 use Rattle.frame.specs.declared.answer.Head.{Head}
+use Rattle.frame.specs.declared.answer.Outline.{Outline}
 use Rattle.frame.specs.declared.answer.Outline.the-variants.{Whole, Not}
 use Rattle.frame.proofs.CellLaws.{fits-decode}
 use Rattle.frame.proofs.RowLaws.{firstFail-append, row-holds, rows-after}
@@ -25,7 +26,7 @@ use Rattle.frame.proofs.OutlineLaws.{Outlined, outlined-passes, length-own, lea
 use Rattle.frame.proofs.PartLaws.{whole-outlined, not-outlined, body-part}
 use Rattle.frames.specs.Reading.{formatOf, isFormat, kindRows, rows, answerOf, messageBy}
 use Rattle.frames.specs.declared.reading.Whole.{Whole as Found-Whole}
-use Rattle.frames.specs.Steps.{kindOf, afterOutline, kindRefused, WholeAt}
+use Rattle.frames.specs.Steps.{kindOf, isKind, afterOutline, kindRefused, WholeAt}
 
 -- ---- the header's six digits
 module _ (t : List ℕ) (o : Outlined t) where
@@ -253,10 +254,17 @@ module _ (line : List ℕ) (at : ℕ) (w : Found-Whole) (s : WholeAt line at w) 
               ∙ message-hit C none same one bytes outlined bu fm ve,
         )
 
-    pub whole-miss : (w .kind ≡ kindOf (C .form) → ⊥) → none ≡ messageBy C none bytes
-    whole-miss h =
-        message-miss C none same one bytes outlined
-        (λ p. h (kind-is ∙ (λ i. (p .0 i * 100 + p .1 i) * 100 + p .2 i)))
+-- a frame of another kind, or none
+module _ {M : Type 0} (C : Codec M) (none : M) (same : formatOf (C .form .number) ≡ C .form) (one : isFormat (C .form .number) ≡ true) (t : List ℕ) where
+  pub kind-miss : isKind (kindOf (C .form)) (outlineOf t) ≡ false → none ≡ messageBy C none t
+  kind-miss miss = go (outlineOf t) refl
+    where
+      go : (o : Outline) → outlineOf t ≡ o → none ≡ messageBy C none t
+      go (Not a) e = message-not t a e C none
+      go (Whole h) e =
+          let other = eqb-false (h .kind) (kindOf (C .form)) (sym (ap (isKind (kindOf (C .form))) e) ∙ miss) in
+          let o = whole-outlined t h e in
+          message-miss C none same one t (o .0) (λ p. other (ap (λ (d : Head). d .kind) (o .1) ∙ (λ i. (p .0 i * 100 + p .1 i) * 100 + p .2 i)))
 
 -- where a whole frame stands
 module _ (line : List ℕ) (at : ℕ) (h : Head) (e : outlineOf (drop at line) ≡ Whole h) where

@@ -15,7 +15,7 @@ use Rattle.frame.specs.declared.answer.Outline.{Outline}
 use Rattle.frames.specs.declared.reading.Whole.{Whole}
 use Rattle.frames.specs.declared.reading.Found.{Found}
 use Rattle.frames.specs.declared.reading.Found.the-variants.{At, None}
-use Rattle.frames.specs.Reading.{formatOf, isFormat, kindRows}
+use Rattle.frames.specs.Reading.{formatOf, isFormat, kindRows, answerOf}
 
 -- business, format and version as six digits
 abbrev pub kindOf : Format → ℕ
@@ -43,3 +43,13 @@ pub record WholeAt (line : List ℕ) (at : ℕ) (w : Whole) : Type 0 where
 abbrev pub foundSays : Found → List ℕ → ℕ → Type 0
 foundSays (At w) line at = WholeAt line at w
 foundSays (None a) line at = outlineOf (drop at line) ≡ Outline.Not a
+
+-- a whole outline whose header has these six digits
+abbrev pub isKind : ℕ → Outline → Bool
+isKind kind (Outline.Whole h) = eqb (h .kind) kind
+isKind kind (Outline.Not a) = false
+
+-- what looking for a frame of a kind says
+abbrev pub kindSays : Found → List ℕ → ℕ → ℕ → Type 0
+kindSays (At w) line at kind = WholeAt line at w × (w .kind ≡ kind)
+kindSays (None a) line at kind = (a ≡ answerOf (drop at line)) × (isKind kind (outlineOf (drop at line)) ≡ false)

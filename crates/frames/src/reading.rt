@@ -3,7 +3,7 @@ ghost use mathlib.Core.Path.{_≡_};
 ghost use Prim.Native.Nat.{_+_};
 ghost use lib.ListN.{length, drop};
 ghost use Rattle.frames.specs.Reading.{answerOf, noticeAt, quoteAt, pricesAt, haltAt};
-ghost use Rattle.frames.specs.Steps.{afterOutline, kindRefused, foundSays};
+ghost use Rattle.frames.specs.Steps.{afterOutline, kindRefused, foundSays, kindSays};
 use frame::answer::Answer;
 use frame::answer::Outline;
 use frame::outline::outline;
@@ -120,11 +120,29 @@ pub fn read(line: &[u8], at: usize) -> Answer
     }
 }
 
+// The body of the frame at a place if it is of a kind; of any other frame, and where there is none, the answer.
+fn find_kind(line: &[u8], at: usize, kind: u32) -> Found
+    ensures { λ r. ⌜ kindSays r (now (line .entry)) at kind ⌝ }
+{
+    match find(line, at) {
+        Found::None(answer) => Found::None(answer),
+        Found::At(w) => {
+            if w.kind == kind {
+                return Found::At(w);
+            }
+            let start = w.start;
+            let end = w.end;
+            let answer = answer_of(&line[start..end], w.kind, w.seq);
+            Found::None(answer)
+        }
+    }
+}
+
 // The same, with the notice if it is one.
 pub fn read_notice(line: &[u8], at: usize) -> NoticeReading
     ensures { λ r. ⌜ r ≡ noticeAt (drop at (now (line .entry))) ⌝ }
 {
-    match find(line, at) {
+    match find_kind(line, at, FIVE) {
         Found::None(answer) => {
             let notice = notices::empty();
             NoticeReading { answer, notice }
@@ -132,12 +150,7 @@ pub fn read_notice(line: &[u8], at: usize) -> NoticeReading
         Found::At(w) => {
             let start = w.start;
             let end = w.end;
-            if w.kind == FIVE {
-                return notices::read(&line[start..end], w.seq);
-            }
-            let answer = answer_of(&line[start..end], w.kind, w.seq);
-            let notice = notices::empty();
-            NoticeReading { answer, notice }
+            notices::read(&line[start..end], w.seq)
         }
     }
 }
@@ -146,7 +159,7 @@ pub fn read_notice(line: &[u8], at: usize) -> NoticeReading
 pub fn read_quote(line: &[u8], at: usize) -> QuoteReading
     ensures { λ r. ⌜ r ≡ quoteAt (drop at (now (line .entry))) ⌝ }
 {
-    match find(line, at) {
+    match find_kind(line, at, SIX) {
         Found::None(answer) => {
             let quote = quotes::reading::empty();
             QuoteReading { answer, quote }
@@ -154,12 +167,7 @@ pub fn read_quote(line: &[u8], at: usize) -> QuoteReading
         Found::At(w) => {
             let start = w.start;
             let end = w.end;
-            if w.kind == SIX {
-                return quotes::reading::read(&line[start..end], w.seq);
-            }
-            let answer = answer_of(&line[start..end], w.kind, w.seq);
-            let quote = quotes::reading::empty();
-            QuoteReading { answer, quote }
+            quotes::reading::read(&line[start..end], w.seq)
         }
     }
 }
@@ -168,7 +176,7 @@ pub fn read_quote(line: &[u8], at: usize) -> QuoteReading
 pub fn read_prices(line: &[u8], at: usize) -> PricesReading
     ensures { λ r. ⌜ r ≡ pricesAt (drop at (now (line .entry))) ⌝ }
 {
-    match find(line, at) {
+    match find_kind(line, at, TWELVE) {
         Found::None(answer) => {
             let prices = prices::empty();
             PricesReading { answer, prices }
@@ -176,12 +184,7 @@ pub fn read_prices(line: &[u8], at: usize) -> PricesReading
         Found::At(w) => {
             let start = w.start;
             let end = w.end;
-            if w.kind == TWELVE {
-                return prices::read(&line[start..end], w.seq);
-            }
-            let answer = answer_of(&line[start..end], w.kind, w.seq);
-            let prices = prices::empty();
-            PricesReading { answer, prices }
+            prices::read(&line[start..end], w.seq)
         }
     }
 }
@@ -190,7 +193,7 @@ pub fn read_prices(line: &[u8], at: usize) -> PricesReading
 pub fn read_halt(line: &[u8], at: usize) -> HaltReading
     ensures { λ r. ⌜ r ≡ haltAt (drop at (now (line .entry))) ⌝ }
 {
-    match find(line, at) {
+    match find_kind(line, at, NINETEEN) {
         Found::None(answer) => {
             let halt = halts::empty();
             HaltReading { answer, halt }
@@ -198,12 +201,7 @@ pub fn read_halt(line: &[u8], at: usize) -> HaltReading
         Found::At(w) => {
             let start = w.start;
             let end = w.end;
-            if w.kind == NINETEEN {
-                return halts::read(&line[start..end], w.seq);
-            }
-            let answer = answer_of(&line[start..end], w.kind, w.seq);
-            let halt = halts::empty();
-            HaltReading { answer, halt }
+            halts::read(&line[start..end], w.seq)
         }
     }
 }

@@ -1,24 +1,25 @@
 -- `reading::read_prices` meets its contract.
-use mathlib.Core.Path.{_≡_, refl, sym, subst, _∙_}
+use mathlib.Core.Path.{_≡_, refl, subst, _∙_}
 use lib.Dec.{lit<}
 use lib.ListN.{drop}
 use Rattle.prices.specs.Prices.{noPrices, twelveCodec, pricesReading}
 use Rattle.frames.specs.declared.reading.Found.{Found}
 use Rattle.frames.specs.Reading.{formatOf}
-use Rattle.frames.specs.Steps.{WholeAt, foundSays}
-use Rattle.frames.proofs.ReadingLaws.{answer-not, message-not, whole-answer, whole-hit, whole-miss}
+use Rattle.frames.specs.Steps.{kindOf, WholeAt, kindSays}
+use Rattle.frames.proofs.ReadingLaws.{whole-hit, kind-miss}
 use borrow.Author.Needs.{needs}
 use Rattle.frames.proofs.reading.read_prices.Statement.{statement}
 use Rattle.frames.proofs.reading.read_prices.Tie as tie
 
--- what finding a whole frame said
+-- what finding a frame of the kind said
 told : (c : tie.After-w) → WholeAt (c .before .before .before .before .args .line .now) (c .before .before .before .before .args .at) (c .w .given .0 .0)
+    × (c .w .given .0 .0 .kind ≡ kindOf (twelveCodec .form))
 told c =
     let a = c .before .before .before .before .args in
-    subst (λ (r : Found). foundSays r (a .line .now) (a .at)) (c .w .given .1) (c .before .before .find .ensures)
+    subst (λ (r : Found). kindSays r (a .line .now) (a .at) (kindOf (twelveCodec .form))) (c .w .given .1) (c .before .before .find-kind .ensures)
 
-find-requires : tie.Need-find-requires
-find-requires c κs = search needs
+find-kind-requires : tie.Need-find-kind-requires
+find-kind-requires c κs = search needs
 
 enum-known-answer : tie.Need-enum-known-answer
 enum-known-answer c = search needs
@@ -30,65 +31,39 @@ enum-known-w : tie.Need-enum-known-w
 enum-known-w c = search needs
 
 sub-read : tie.Need-sub-read
-sub-read c = told (c .before .before .before) .in-order
+sub-read c = told (c .before) .0 .in-order
 
 part-read-start : tie.Need-part-read-start
-part-read-start c = told (c .before .before .before) .in-order
+part-read-start c = told (c .before) .0 .in-order
 
 part-read-end : tie.Need-part-read-end
-part-read-end c = told (c .before .before .before) .in-line
+part-read-end c = told (c .before) .0 .in-line
 
 read-requires : tie.Need-read-requires
 read-requires c κs = search needs
 
 returns : tie.Need-returns
-unfolding formatOf pricesReading
+unfolding formatOf
 returns c =
-    let k = c .before .before .before .before .before in
-    let a = k .before .before .before .before .args in
-    let hit = whole-hit (a .line .now) (a .at) (k .w .given .0 .0) (told k) twelveCodec noPrices refl refl (lit< tt) (lit< tt) (c .before .before .if1 .taken) in
-    c .read .ensures ∙ (λ i. record { answer = hit .0 i; prices = hit .1 i })
-
-sub-answer-of : tie.Need-sub-answer-of
-sub-answer-of c = told (c .before .before .before) .in-order
-
-part-answer-of-start : tie.Need-part-answer-of-start
-part-answer-of-start c = told (c .before .before .before) .in-order
-
-part-answer-of-end : tie.Need-part-answer-of-end
-part-answer-of-end c = told (c .before .before .before) .in-line
-
-answer-of-requires : tie.Need-answer-of-requires
-answer-of-requires c κs = search needs
-
-empty-requires-2 : tie.Need-empty-requires-2
-empty-requires-2 c κs = search needs
+    let a = c .before .before .before .before .before .before .args in
+    let e = subst (λ (r : Found). kindSays r (a .line .now) (a .at) (kindOf (twelveCodec .form))) (c .before .before .answer .given .1)
+    (c .before .before .before .before .find-kind .ensures) in
+    let none = c .empty .ensures ∙ kind-miss twelveCodec noPrices refl refl (drop (a .at) (a .line .now)) (e .1) in
+    λ i. record { answer = e .0 i; prices = none i }
 
 returns-2 : tie.Need-returns-2
+unfolding formatOf pricesReading
 returns-2 c =
-    let a = c .before .before .before .before .before .before .args in
-    let t = drop (a .at) (a .line .now) in
-    let x = c .before .before .answer .given .0 .0 in
-    let e = subst (λ (r : Found). foundSays r (a .line .now) (a .at)) (c .before .before .answer .given .1) (c .before .before .before .before .find .ensures) in
-    let answer = answer-not t x e in
-    let none = c .empty .ensures ∙ message-not t x e twelveCodec noPrices in
-    λ i. record { answer = answer i; prices = none i }
-
-returns-3 : tie.Need-returns-3
-unfolding formatOf
-returns-3 c =
-    let k = c .before .before .before .before .before .before in
+    let k = c .before .before .before in
     let a = k .before .before .before .before .args in
-    let w = k .w .given .0 .0 in
-    let answer = c .before .answer-of .ensures ∙ whole-answer (a .line .now) (a .at) w (told k) in
-    let none = c .empty2 .ensures ∙ whole-miss (a .line .now) (a .at) w (told k) twelveCodec noPrices refl refl (lit< tt) (lit< tt) (c .before .before .before .if1 .left) in
-    λ i. record { answer = answer i; prices = none i }
+    let hit = whole-hit (a .line .now) (a .at) (k .w .given .0 .0) (told k .0) twelveCodec noPrices refl refl (lit< tt) (lit< tt) (told k .1) in
+    c .read .ensures ∙ (λ i. record { answer = hit .0 i; prices = hit .1 i })
 
 pub read-prices-spec : {M : Type 1} → statement M
 read-prices-spec =
     tie.close
     (tie.spec
-    find-requires
+    find-kind-requires
     enum-known-answer
     empty-requires
     enum-known-w
@@ -97,10 +72,4 @@ read-prices-spec =
     part-read-end
     read-requires
     returns
-    sub-answer-of
-    part-answer-of-start
-    part-answer-of-end
-    answer-of-requires
-    empty-requires-2
-    returns-2
-    returns-3)
+    returns-2)

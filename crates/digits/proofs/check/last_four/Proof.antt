@@ -5,10 +5,10 @@ use mathlib.Core.Path.{ap}
 use native.Mathlib.Omega.{arith}
 use lib.ListN.{length}
 use denote.Ref.{now}
-use Rattle.frame.specs.Gathered.{gathered}
-use Rattle.frame.proofs.XorLaws.{gathered-more}
-use Rattle.frame.proofs.check.last_four.Statement.{statement}
-use Rattle.frame.proofs.check.last_four.Tie as tie
+use Rattle.digits.specs.Check.{gathered}
+use Rattle.digits.proofs.XorLaws.{gathered-more}
+use Rattle.digits.proofs.check.last_four.Statement.{statement}
+use Rattle.digits.proofs.check.last_four.Tie as tie
 
 sub-four : tie.Need-sub-four
 sub-four c = search needs

@@ -1,41 +1,13 @@
-// The check byte: bytes loaded as numbers of 64 bits, the first byte lowest, gathered by `^`, and folded to one byte.
+// The exclusive-or of bytes: eight at a time are loaded as one number, gathered by `^`, and folded to one byte at the end.
 ghost use mathlib.Core.Path.{_≡_};
-ghost use Prim.Native.Nat.{_+_, _-_, _%_, _≤_, _<_};
-ghost use lib.ListN.{length, take, drop};
+ghost use Prim.Native.Nat.{_-_, _%_};
+ghost use lib.ListN.{length};
 ghost use Rattle.digits.specs.Words.{bytes};
-ghost use Rattle.frame.specs.Outline.{xorOf};
-ghost use Rattle.frame.specs.Gathered.{gathered};
-
-// A byte as a number of 64 bits.
-fn wide(b: u8) -> u64
-    ensures { λ r. ⌜ (r ≡ b) × (r < 256) ⌝ }
-{
-    b as u64
-}
-
-// Two bytes.
-fn two(s: &[u8], at: usize) -> u64
-    requires { ⌜ at + 2 ≤ length (now s) ⌝ }
-    ensures { λ r. ⌜ (r < 65536) × (bytes 2 r ≡ take 2 (drop at (now (s .entry)))) ⌝ }
-{
-    wide(s[at]) + wide(s[at + 1]) * 256
-}
-
-// Four bytes.
-fn four(s: &[u8], at: usize) -> u64
-    requires { ⌜ at + 4 ≤ length (now s) ⌝ }
-    ensures { λ r. ⌜ (r < 4294967296) × (bytes 4 r ≡ take 4 (drop at (now (s .entry)))) ⌝ }
-{
-    two(s, at) + two(s, at + 2) * 65536
-}
-
-// Eight bytes.
-fn eight(s: &[u8], at: usize) -> u64
-    requires { ⌜ at + 8 ≤ length (now s) ⌝ }
-    ensures { λ r. ⌜ (r < 18446744073709551616) × (bytes 8 r ≡ take 8 (drop at (now (s .entry)))) ⌝ }
-{
-    four(s, at) + four(s, at + 4) * 4294967296
-}
+ghost use Rattle.digits.specs.Check.{xorOf, gathered};
+use super::words::eight;
+use super::words::four;
+use super::words::two;
+use super::words::wide;
 
 // The four bytes after the whole eights, where there are so many.
 fn last_four(s: &[u8], x: u64) -> u64
@@ -84,7 +56,7 @@ fn fold(x: u64) -> u8
 }
 
 // The exclusive-or of bytes.
-pub(crate) fn xor_of(s: &[u8]) -> u8
+pub fn xor_of(s: &[u8]) -> u8
     ensures { λ r. ⌜ r ≡ xorOf (now (s .entry)) ⌝ }
 {
     let n = s.len();

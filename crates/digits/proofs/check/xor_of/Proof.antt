@@ -5,11 +5,10 @@ use mathlib.Core.Path.{_≡_, ap, _∙_}
 use native.Mathlib.Omega.{arith}
 use lib.ListN.{length}
 use denote.Ref.{now}
-use Rattle.frame.specs.Outline.{xorOf}
-use Rattle.frame.specs.Gathered.{gathered}
-use Rattle.frame.proofs.XorLaws.{gathered-more, gathered-none, gathered-all}
-use Rattle.frame.proofs.check.xor_of.Statement.{statement}
-use Rattle.frame.proofs.check.xor_of.Tie as tie
+use Rattle.digits.specs.Check.{xorOf, gathered}
+use Rattle.digits.proofs.XorLaws.{gathered-more, gathered-none, gathered-all}
+use Rattle.digits.proofs.check.xor_of.Statement.{statement}
+use Rattle.digits.proofs.check.xor_of.Tie as tie
 
 abbrev Inv-loop : tie.InvT-loop
 Inv-loop s n x₀ i₀ x i = (i ≤ length s) × (i % 8 ≡ 0) × (gathered x i s ≡ xorOf s)

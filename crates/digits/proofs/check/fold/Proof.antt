@@ -3,9 +3,9 @@ use borrow.Author.Needs.{needs}
 use Prim.Native.Nat.{_/_, _^_}
 use mathlib.Core.Path.{sym, _∙_}
 use lib.Bits.{bitXor}
-use Rattle.frame.proofs.XorLaws.{xor-halve, xor-low}
-use Rattle.frame.proofs.check.fold.Statement.{statement}
-use Rattle.frame.proofs.check.fold.Tie as tie
+use Rattle.digits.proofs.XorLaws.{xor-halve, xor-low}
+use Rattle.digits.proofs.check.fold.Statement.{statement}
+use Rattle.digits.proofs.check.fold.Tie as tie
 
 cast-result : tie.Need-cast-result
 cast-result c = search needs

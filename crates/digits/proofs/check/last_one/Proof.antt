@@ -5,11 +5,11 @@ use mathlib.Core.Path.{ap}
 use native.Mathlib.Omega.{arith}
 use lib.ListN.{length}
 use denote.Ref.{now}
 use Rattle.digits.proofs.Loads.{load-one}
-use Rattle.frame.specs.Gathered.{gathered}
-use Rattle.frame.proofs.XorLaws.{gathered-more}
-use Rattle.frame.proofs.check.last_one.Statement.{statement}
-use Rattle.frame.proofs.check.last_one.Tie as tie
+use Rattle.digits.specs.Check.{gathered}
+use Rattle.digits.proofs.XorLaws.{gathered-more}
+use Rattle.digits.proofs.check.last_one.Statement.{statement}
+use Rattle.digits.proofs.check.last_one.Tie as tie
 
 sub-wide : tie.Need-sub-wide
 sub-wide c = search needs

@@ -8,9 +8,8 @@ use lib.Bits.{bitXor, differ, xor-step, xor-shr, xor-mod, xor-zero-r, xor-comm}
 use native.Mathlib.Nat.{zero-add, suc-add, le-refl, pow-succ', div-one, div-eq-of-lt, div-div-eq-div-mul}
 use lib.ListN.{length, take, drop, take-append-drop, drop-of-length-le}
 use lib.Seq.{drop-drop}
 use Rattle.digits.specs.Words.{bytes}
-use Rattle.frame.specs.Outline.{xorOf}
-use Rattle.frame.specs.Gathered.{gathered}
+use Rattle.digits.specs.Check.{xorOf, gathered}
 
 -- three digits of two
 digit-assoc : (x y z : ℕ) → x < 2 → y < 2 → z < 2 → differ (bitXor x y) z ≡ differ x (bitXor y z)

@@ -1,9 +1,9 @@
--- `check::eight` meets its contract: two loads of four bytes.
+-- `words::eight` meets its contract: two loads of four bytes.
 use borrow.Author.Needs.{needs}
 use denote.Ref.{now}
 use Rattle.digits.proofs.Loads.{load-join}
-use Rattle.frame.proofs.check.eight.Statement.{statement}
-use Rattle.frame.proofs.check.eight.Tie as tie
+use Rattle.digits.proofs.words.eight.Statement.{statement}
+use Rattle.digits.proofs.words.eight.Tie as tie
 
 four-requires : tie.Need-four-requires
 four-requires c κs = search needs
