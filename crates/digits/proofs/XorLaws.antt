@@ -9,7 +9,8 @@ use native.Mathlib.Nat.{zero-add, suc-add, le-refl, pow-succ', div-one, div-eq-o
 use lib.ListN.{length, take, drop, take-append-drop, drop-of-length-le}
 use lib.Seq.{drop-drop}
 use Rattle.digits.specs.Words.{bytes}
-use Rattle.digits.specs.Check.{xorOf, gathered}
+use Rattle.digits.specs.Check.{xorOf}
+use Rattle.digits.specs.Steps.{gathered}
 
 -- three digits of two
 digit-assoc : (x y z : ℕ) → x < 2 → y < 2 → z < 2 → differ (bitXor x y) z ≡ differ x (bitXor y z)

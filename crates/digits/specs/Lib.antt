@@ -5,3 +5,4 @@ pub mod Check
 pub mod Halves
 pub mod Amounts
 pub mod Fields
+pub mod Steps

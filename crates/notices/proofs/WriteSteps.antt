@@ -6,7 +6,7 @@ use mathlib.Core.List.{List, [], _∷_, _++_}
 use native.Mathlib.Numerals.{add-one}
 use native.Mathlib.Omega.{arith}
 use lib.ListN.{length, getD, take, drop, set, length-set, drop-of-length-le}
-use lib.Seq.{drop-cons, length-take-le, take-take, sets, sets-eq, paste}
+use lib.Seq.{drop-cons, length-take-le, take-take, sets}
 use lib.Dec.{eqb, leb, ltb}
 use borrow.Author.Tests.{eq-eqb, ne-eqb, ltb-true, ltb-false, lt-ltb, le-ltb, leb-true, leb-false, le-leb, lt-leb}
 use Rattle.digits.specs.Packed.{byteOf}
@@ -15,13 +15,13 @@ use Rattle.frame.specs.Cells.{size, fits, encode}
 use Rattle.frame.specs.Format.{ranged, around}
 use Rattle.frame.specs.Times.{every}
 use Rattle.frame.specs.Codec.{legal, frameOf}
-use Rattle.frame.specs.Writing.{writeAnswer, writtenOver, closeAnswer, closedOver}
+use Rattle.frame.specs.Writing.{bytesOver, writeAnswer, writtenOver, closeAnswer, closedOver}
 use Rattle.frame.specs.declared.answer.Written.{Written}
 use Rattle.frame.proofs.CodecLaws.{legal-fits}
 use Rattle.notices.specs.Notices.{five, fiveCells, fiveRuled, room, noticeValues, tidyNotice, fiveCodec, ShapedNotice}
 use Rattle.notices.specs.declared.Notice.{Notice}
 use Rattle.notices.proofs.RawLaws.{fits-raws, encode-raws}
-use Rattle.frame.proofs.PutLaws.{message-short, message-closed}
+use Rattle.frame.proofs.PutLaws.{bytes-in, message-short, message-closed}
 use Rattle.notices.proofs.NoticeLaws.{size-five, legal-text, notices-lawful}
 
 -- ---- zeros from a place on
@@ -114,12 +114,6 @@ module _ (m : Notice) (s : length (m .text) ≡ room) where
     legal-tests e = sym (others ∙ rw e)
 
 -- ---- the bytes of a legal notice
--- a copy is a run of stores
-paste-sets : (d : List ℕ) (at : ℕ) (s : List ℕ) (n : ℕ) → at + n ≤ length d → n ≤ length s → paste d at s n ≡ sets d at (take n s)
-paste-sets d at s n h k =
-    let e : length (take n s) ≡ n = length-take-le n s k in
-    sym (sets-eq (take n s) d at (omega arith) ∙ ap (λ (x : ℕ). take at d ++ take n s ++ drop (at + x) d) e)
-
 module _ (m : Notice) (s : length (m .text) ≡ room) (l : legal fiveCodec m ≡ true) where
   -- its category has two digits
   pub legal-category : m .category < 100
@@ -131,18 +125,18 @@ module _ (m : Notice) (s : length (m .text) ≡ room) (l : legal fiveCodec m ≡
 
   -- its body stands at its place
   pub body-placed : (buf : List ℕ) → 14 + m .length ≤ length buf
-      → paste (set buf 10 (byteOf (m .category))) 11 (m .text) (m .length) ≡ sets buf 10 (encode (fiveCells (m .length)) (noticeValues m))
+      → bytesOver (take (m .length) (m .text)) (set buf 10 (byteOf (m .category))) 11 ≡ sets buf 10 (encode (fiveCells (m .length)) (noticeValues m))
   body-placed buf h =
       let n = m .length in
       let c : m .category / 1 % 100 ≡ m .category = omega (arith, legal-category) in
       let long : n ≤ length (m .text) = omega (arith, legal-text m l) in
-      paste-sets (set buf 10 (byteOf (m .category))) 11 (m .text) n (rw length-set (omega arith)) long
+      sym (bytes-in (take n (m .text)) (set buf 10 (byteOf (m .category))) 11 (rw (length-set, length-take-le n (m .text) long) (omega arith)))
       ∙ ap₂ (λ (x : ℕ) (t : List ℕ). sets (set buf 10 (byteOf x)) 11 t) (sym c)
       (sym (encode-raws n (take n (m .text)) ∙ take-take n n (m .text) (omega arith)))
 
   -- the frame closed around it
   pub notice-written : (buf t e : List ℕ) (r : Written) → 14 + m .length ≤ length buf
-      → t ≡ paste (set buf 10 (byteOf (m .category))) 11 (m .text) (m .length)
+      → t ≡ bytesOver (take (m .length) (m .text)) (set buf 10 (byteOf (m .category))) 11
       → (r ≡ closeAnswer 5 1 (m .seq) (14 + m .length) t) × (e ≡ closedOver 5 1 (m .seq) (14 + m .length) t)
       → (r ≡ writeAnswer (legal fiveCodec m) (frameOf fiveCodec m) buf) × (e ≡ writtenOver (legal fiveCodec m) (frameOf fiveCodec m) buf)
   notice-written buf t e r h p q =

@@ -3,7 +3,6 @@ ghost use Prim.Native.Nat.{_+_, _^_, _≤_, _<_};
 ghost use mathlib.Core.Path.{_≡_};
 ghost use mathlib.Core.List.{[], _∷_};
 ghost use lib.ListN.{length, drop, replicate};
-ghost use lib.Seq.{paste};
 ghost use lib.Dec.{eqb};
 ghost use Rattle.frame.specs.Times.{every};
 ghost use Rattle.frame.specs.Codec.{legal, frameOf};
@@ -12,6 +11,7 @@ ghost use Rattle.notices.specs.Notices.{noticeReading, noNotice, room, f
 use frame::answer::Answer;
 use frame::answer::Frame;
 use frame::answer::Written;
+use frame::bytes::put_bytes;
 use frame::closing::close;
 
 // A notice of a category with the first `length` bytes of the text; the others are zero.
@@ -71,18 +71,6 @@ fn known(category: u8) -> bool
     }
 }
 
-// The first n bytes copied to a place.
-fn copy(from: &[u8], n: usize, to: &mut [u8], at: usize)
-    requires { ⌜ (n ≤ length (now from)) × (at + n ≤ length (now to)) ⌝ }
-    ensures { λ r. ⌜ now (to .exit) ≡ paste (now (to .entry)) at (now (from .entry)) n ⌝ }
-{
-    let mut k = 0;
-    while k < n {
-        to[at + k] = from[k];
-        k += 1;
-    }
-}
-
 // The body of a frame with this number.
 pub fn read(body: &[u8], seq: u32) -> NoticeReading
     ensures { λ r. ⌜ r ≡ noticeReading seq (now (body .entry)) ⌝ }
@@ -108,7 +96,7 @@ pub fn read(body: &[u8], seq: u32) -> NoticeReading
     }
     let long = n - 1;
     let mut text = zeros();
-    copy(&body[1..], long, &mut text, 0);
+    put_bytes(&body[1..], &mut text, 0);
     let length = 13 + n;
     NoticeReading {
         answer: Answer::Accepted(Frame {
@@ -171,6 +159,6 @@ pub fn write(m: Notice, buf: &mut [u8]) -> Written
     let category = m.category;
     buf[10] = category / 10 * 16 + category % 10;
     let text = m.text;
-    copy(&text, n, buf, 11);
+    put_bytes(&text[..n], buf, 11);
     close(buf, 5, 1, m.seq, 14 + n)
 }

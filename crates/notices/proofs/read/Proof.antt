@@ -70,20 +70,20 @@ returns-5 c =
 zeros-requires : tie.Need-zeros-requires
 zeros-requires c κs = search needs
 
-sub-copy : tie.Need-sub-copy
-sub-copy c = search needs
+sub-put-bytes : tie.Need-sub-put-bytes
+sub-put-bytes c = search needs
 
-part-copy-start : tie.Need-part-copy-start
-part-copy-start c = search needs
+part-put-bytes-start : tie.Need-part-put-bytes-start
+part-put-bytes-start c = search needs
 
-part-copy-end : tie.Need-part-copy-end
-part-copy-end c = search needs
+part-put-bytes-end : tie.Need-part-put-bytes-end
+part-put-bytes-end c = search needs
 
-slice-aggregate-copy : tie.Need-slice-aggregate-copy
-slice-aggregate-copy c = search needs
+slice-aggregate-put-bytes : tie.Need-slice-aggregate-put-bytes
+slice-aggregate-put-bytes c = search needs
 
-copy-requires : tie.Need-copy-requires
-copy-requires c κs = search needs
+put-bytes-requires : tie.Need-put-bytes-requires
+put-bytes-requires c κs = search needs
 
 add-length : tie.Need-add-length
 add-length c = search needs
@@ -92,10 +92,10 @@ returns-6 : tie.Need-returns-6
 returns-6 c =
     let a = c .before .before .before .before .before .before .before .before .before .before .before .before .before .before .args in
     let k = c .before .before .before .before .before .before in
-    read-accepted (a .seq) (a .body .now) (c .before .before .before .before .zeros .result) (c .before .copy .last .1 .1 .0) (omega arith)
+    read-accepted (a .seq) (a .body .now) (c .before .before .before .before .zeros .result) (c .before .put-bytes .last .1 .0) (omega arith) (omega arith)
     (row-none (a .body .now) (omega arith) (omega arith) (omega arith) (omega arith)
     (sym (k .known .ensures) ∙ not-false (k .known .result) (c .before .before .before .before .before .if5 .left)))
-    (c .before .before .before .before .zeros .ensures) (c .before .copy .ensures)
+    (c .before .before .before .before .zeros .ensures) (c .before .put-bytes .ensures)
 
 pub read-spec : {M : Type 1} → statement M
 read-spec =
@@ -117,10 +117,10 @@ read-spec =
     refused-requires-5
     returns-5
     zeros-requires
-    sub-copy
-    part-copy-start
-    part-copy-end
-    slice-aggregate-copy
-    copy-requires
+    sub-put-bytes
+    part-put-bytes-start
+    part-put-bytes-end
+    slice-aggregate-put-bytes
+    put-bytes-requires
     add-length
     returns-6)

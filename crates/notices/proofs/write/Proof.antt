@@ -4,6 +4,7 @@ use mathlib.Core.Bool.{true}
 use native.Mathlib.Omega.{arith}
 use borrow.Author.Tests.{not-true, not-false}
 use lib.ListN.{length, length-set}
+use lib.Seq.{length-take-le}
 use Rattle.frame.specs.Codec.{legal, frameOf}
 use Rattle.notices.specs.Notices.{fiveCodec, room}
 use Rattle.frame.proofs.PutLaws.{write-illegal}
@@ -56,16 +57,24 @@ add-buf c =
 slice-write-buf : tie.Need-slice-write-buf
 slice-write-buf c = search needs
 
-slice-aggregate-copy : tie.Need-slice-aggregate-copy
-slice-aggregate-copy c = search needs
-
-copy-requires : tie.Need-copy-requires
-copy-requires c κs =
-    let w = c .before .before .before .before .before in
+array-share-prefix-text : tie.Need-array-share-prefix-text
+array-share-prefix-text c =
+    let w = c .before .before .before in
     let a = w .before .before .args in
-    let l : legal fiveCodec (a .m) ≡ true = sym (w .lawful .ensures) ∙ not-false (w .lawful .result) (c .before .before .before .before .if1 .left) in
+    let l : legal fiveCodec (a .m) ≡ true = sym (w .lawful .ensures) ∙ not-false (w .lawful .result) (c .before .before .if1 .left) in
     let s : length (a .m .text) ≡ room = search needs in
-    (omega (arith, legal-text (a .m) l), rw length-set (omega arith))
+    omega (arith, legal-text (a .m) l)
+
+slice-aggregate-put-bytes : tie.Need-slice-aggregate-put-bytes
+slice-aggregate-put-bytes c =
+    let w = c .before .before .before .before in
+    let a = w .before .before .args in
+    let l : legal fiveCodec (a .m) ≡ true = sym (w .lawful .ensures) ∙ not-false (w .lawful .result) (c .before .before .before .if1 .left) in
+    let s : length (a .m .text) ≡ room = search needs in
+    sym (length-take-le (a .m .length) (a .m .text) (omega (arith, legal-text (a .m) l)))
+
+put-bytes-requires : tie.Need-put-bytes-requires
+put-bytes-requires c κs = search needs
 
 add-close : tie.Need-add-close
 add-close c = search needs
@@ -82,9 +91,9 @@ returns-3 c =
     let a = w .before .before .args in
     let l : legal fiveCodec (a .m) ≡ true = sym (w .lawful .ensures) ∙ not-false (w .lawful .result) (c .before .before .before .before .before .before .before .before .before .before .before .if1 .left) in
     let s : length (a .m .text) ≡ room = search needs in
-    notice-written (a .m) s l (a .buf .now) (c .before .before .before .before .before .before .copy .last .1 .1 .0)
+    notice-written (a .m) s l (a .buf .now) (c .before .before .before .before .before .before .put-bytes .last .1 .0)
     (c .before .before .close .last .0) (c .before .before .close .result) (omega arith)
-    (c .before .before .before .before .before .before .copy .ensures) (c .before .before .close .ensures)
+    (c .before .before .before .before .before .before .put-bytes .ensures) (c .before .before .close .ensures)
 
 pub write-spec : {M : Type 1} → statement M
 write-spec =
@@ -97,8 +106,9 @@ write-spec =
     mul-buf
     add-buf
     slice-write-buf
-    slice-aggregate-copy
-    copy-requires
+    array-share-prefix-text
+    slice-aggregate-put-bytes
+    put-bytes-requires
     add-close
     close-requires
     same-length

@@ -5,7 +5,7 @@ use mathlib.Core.Path.{ap}
 use native.Mathlib.Omega.{arith}
 use lib.ListN.{length}
 use denote.Ref.{now}
-use Rattle.digits.specs.Check.{gathered}
+use Rattle.digits.specs.Steps.{gathered}
 use Rattle.digits.proofs.XorLaws.{gathered-more}
 use Rattle.digits.proofs.check.last_four.Statement.{statement}
 use Rattle.digits.proofs.check.last_four.Tie as tie

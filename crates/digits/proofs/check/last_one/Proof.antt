@@ -6,7 +6,7 @@ use native.Mathlib.Omega.{arith}
 use lib.ListN.{length}
 use denote.Ref.{now}
 use Rattle.digits.proofs.Loads.{load-one}
-use Rattle.digits.specs.Check.{gathered}
+use Rattle.digits.specs.Steps.{gathered}
 use Rattle.digits.proofs.XorLaws.{gathered-more}
 use Rattle.digits.proofs.check.last_one.Statement.{statement}
 use Rattle.digits.proofs.check.last_one.Tie as tie

@@ -5,7 +5,8 @@ use mathlib.Core.Path.{_≡_, ap, _∙_}
 use native.Mathlib.Omega.{arith}
 use lib.ListN.{length}
 use denote.Ref.{now}
-use Rattle.digits.specs.Check.{xorOf, gathered}
+use Rattle.digits.specs.Check.{xorOf}
+use Rattle.digits.specs.Steps.{gathered}
 use Rattle.digits.proofs.XorLaws.{gathered-more, gathered-none, gathered-all}
 use Rattle.digits.proofs.check.xor_of.Statement.{statement}
 use Rattle.digits.proofs.check.xor_of.Tie as tie
