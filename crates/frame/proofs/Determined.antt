@@ -26,6 +26,12 @@ use Rattle.frame.proofs.rules.zero_code.Reads as zreads
 use Rattle.frame.proofs.rules.time_of_day as day
 use Rattle.frame.proofs.rules.time_of_day.Kinds as down
 use Rattle.frame.proofs.rules.time_of_day.Reads as dreads
+use Rattle.frame.proofs.answer.Answer.number as answer-number
+use Rattle.frame.proofs.answer.Answer.number.Kinds as answer-number-kinds
+use Rattle.frame.proofs.answer.Answer.number.Reads as answer-number-reads
+use Rattle.frame.proofs.answer.Answer.length as answer-length
+use Rattle.frame.proofs.answer.Answer.length.Kinds as answer-length-kinds
+use Rattle.frame.proofs.answer.Answer.length.Reads as answer-length-reads
 
 -- what `outline` answers
 pub determined-outline : (κs : Lifetimes.Lfts 1) (a : World.ArgsD outline.signature κs) (r₁ r₂ : World.ResD outline.signature κs)
@@ -68,3 +74,15 @@ pub determined-code-at : (κs : Lifetimes.Lfts 1) (a : World.ArgsD code.signatur
     (s₁ s₂ : Clauses.AtExit (kinds.endedOf 1 kown.ps kown.r) κs) → kreads.Post κs a r₁ s₁ → kreads.Post κs a r₂ s₂
     → r₁ ≡ r₂
 determined-code-at κs a r₁ r₂ s₁ s₂ p q = p ∙ sym q
+
+-- what `Answer::number` gives
+pub determined-Answer-number : (κs : Lifetimes.Lfts 0) (a : World.ArgsD answer-number.signature κs) (r₁ r₂ : World.ResD answer-number.signature κs)
+    (s₁ s₂ : Clauses.AtExit (kinds.endedOf 0 answer-number-kinds.ps answer-number-kinds.r) κs) → answer-number-reads.Post κs a r₁ s₁ → answer-number-reads.Post κs a r₂ s₂
+    → r₁ ≡ r₂
+determined-Answer-number κs a r₁ r₂ s₁ s₂ p q = p ∙ sym q
+
+-- what `Answer::length` gives
+pub determined-Answer-length : (κs : Lifetimes.Lfts 0) (a : World.ArgsD answer-length.signature κs) (r₁ r₂ : World.ResD answer-length.signature κs)
+    (s₁ s₂ : Clauses.AtExit (kinds.endedOf 0 answer-length-kinds.ps answer-length-kinds.r) κs) → answer-length-reads.Post κs a r₁ s₁ → answer-length-reads.Post κs a r₂ s₂
+    → r₁ ≡ r₂
+determined-Answer-length κs a r₁ r₂ s₁ s₂ p q = p ∙ sym q

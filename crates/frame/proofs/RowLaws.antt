@@ -5,6 +5,7 @@ use mathlib.Core.Bool.{Bool, true, false, cond, _&&_}
 use mathlib.Core.List.{List, [], _∷_, _++_}
 use native.Mathlib.Omega.{arith}
 use lib.Dec.{eqb, eqb·suc-zero}
+use borrow.Author.Tests.{eqb-false}
 use Rattle.digits.proofs.Bools.{no-false}
 use Rattle.frame.specs.Rows.{Row, must, firstFail}
 
@@ -33,6 +34,26 @@ module _ (n : ℕ) (t : Bool) (rows : List Row) (p : firstFail (must (suc n) t �
       go : (u : Bool) → cond u (firstFail rows) (suc n) ≡ 0 → firstFail rows ≡ 0
       go true q = q
       go false q = absurd (omega arith)
+
+-- a row is passed where something else is answered
+pub row-passed : (m n : ℕ) (t : Bool) (rows : List Row) → firstFail (must n t ∷ rows) ≡ m → (m ≡ n → ⊥) → (t ≡ true) × (firstFail rows ≡ m)
+row-passed m n true rows p other = (refl, p)
+row-passed m n false rows p other = absurd (other (sym p))
+
+-- no row answers a number
+abbrev pub silent : ℕ → List Row → Bool
+silent m [] = true
+silent m (must n t ∷ rows) = cond (eqb m n) false (silent m rows)
+
+pub silent-answers : (m : ℕ) (rows : List Row) → silent m rows ≡ true → firstFail rows ≡ m → m ≡ 0
+silent-answers m [] s p = sym p
+silent-answers m (must n t ∷ rows) s p = go (eqb m n) refl s t p (λ x. silent-answers m rows x)
+  where
+    go : (b : Bool) → eqb m n ≡ b → cond b false (silent m rows) ≡ true → (u : Bool) → cond u (firstFail rows) n ≡ m
+        → (silent m rows ≡ true → firstFail rows ≡ m → m ≡ 0) → m ≡ 0
+    go true e q u f ih = absurd (no-false q)
+    go false e q true f ih = ih q f
+    go false e q false f ih = absurd (eqb-false m n e (sym f))
 
 -- no row answers 0
 abbrev pub numbered : List Row → Bool

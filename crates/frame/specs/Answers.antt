@@ -14,6 +14,12 @@ answerNumber (Accepted f) = 0
 answerNumber (NoFrame n) = n
 answerNumber (Refused n l) = n
 
+-- the length that stands beside it: of the frame, accepted or refused; 0 where there is none
+abbrev pub answerLength : Answer → ℕ
+answerLength (Accepted f) = f .length
+answerLength (NoFrame n) = 0
+answerLength (Refused n l) = l
+
 -- the number of a writing's answer
 abbrev pub writtenNumber : Written → ℕ
 writtenNumber (Done l) = 0

@@ -1,4 +1,6 @@
 // What reading and writing answer.
+ghost use mathlib.Core.Path.{_≡_};
+ghost use Rattle.frame.specs.Answers.{answerNumber, answerLength};
 
 // An accepted frame: its format, its number and its whole length in bytes.
 pub struct Frame {
@@ -15,6 +17,32 @@ pub enum Answer {
     NoFrame(u8),
     // 6 to 13, with the length: a whole frame that breaks a rule
     Refused(u8, usize),
+}
+
+impl Answer {
+    // The paper's number.
+    pub fn number(self) -> u8
+        ensures { λ r. ⌜ r ≡ answerNumber self ⌝ }
+    {
+        let answer = self;
+        match answer {
+            Answer::Accepted(_) => 0,
+            Answer::NoFrame(n) => n,
+            Answer::Refused(n, _) => n,
+        }
+    }
+
+    // The length of the whole frame that it speaks of, 0 where it speaks of none.
+    pub fn length(self) -> usize
+        ensures { λ r. ⌜ r ≡ answerLength self ⌝ }
+    {
+        let answer = self;
+        match answer {
+            Answer::Accepted(f) => f.length,
+            Answer::NoFrame(_) => 0,
+            Answer::Refused(_, l) => l,
+        }
+    }
 }
 
 // The header of a frame whose outline is whole: business, format and version as six digits.

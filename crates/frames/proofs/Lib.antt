@@ -3,4 +3,5 @@ pub mod ReadingLaws
 pub mod Trips
 pub mod EdgesHold
 pub mod MoreBytes
+pub mod Lengths
 pub mod Determined
