@@ -1,0 +1,83 @@
+-- One move more gives the rows that the moves give, and keeps what they keep.
+use Prim.Native.Nat.{ℕ, _+_, _≤_}
+use mathlib.Core.Path.{_≡_, refl, sym, ap, _∙_}
+use mathlib.Core.Bool.{Bool, true, false, cond, not, _&&_}
+use mathlib.Core.List.{List, [], _∷_, _++_}
+use native.Mathlib.Omega.{arith}
+use lib.Dec.{eqb, leb}
+use borrow.Author.Tests.{eq-eqb, ne-eqb, eqb-true, eqb-false}
+use Rattle.frame.specs.Answers.{answerNumber, answerLength}
+use Rattle.frame.specs.declared.answer.Answer.{Answer}
+use Rattle.walk.specs.Walk.{Reading, Move, isWhole}
+use Rattle.walk.specs.Answers.{answering}
+use Rattle.walk.specs.Tally.{isSkipped}
+use Rattle.walk.specs.Rows.{skips, longer}
+use Rattle.walk.specs.Pieces.{grown, given, kept}
+use Rattle.walk.specs.Told.{moveOf, noRow, joinedRow, framedRow, holds, toldOf}
+use Rattle.walk.specs.declared.rows.Row.{Row}
+use Rattle.walk.specs.declared.rows.Kept.{Kept}
+use Rattle.walk.specs.declared.rows.Told.{Told}
+use Rattle.walk.specs.declared.rows.Told.the-variants.{Nothing, One, Two, Full}
+
+-- the kept skipped bytes as rows: none, or one
+abbrev pub runOf : Row → List (Move Answer)
+runOf s = cond (eqb (s .bytes) 0) [] (moveOf s ∷ [])
+
+-- joining is growing, as long as the new bytes are some
+run-joined : (s r : Row) → 1 ≤ r .bytes → runOf (joinedRow s r) ≡ grown (runOf s) (moveOf r)
+run-joined s r h = go (eqb (s .bytes) 0) refl
+  where
+    go : (b : Bool) → eqb (s .bytes) 0 ≡ b
+        → runOf (cond b r (record { at = s .at; bytes = s .bytes + r .bytes; answer = s .answer })) ≡ grown (cond b [] (moveOf s ∷ [])) (moveOf r)
+    go true e = rw (ne-eqb (r .bytes) 0 (λ q. omega (arith, q)))
+    go false e = rw (ne-eqb (s .bytes + r .bytes) 0 (λ q. omega (arith, q)))
+
+-- the rows that a call tells, and what it keeps
+abbrev pub toldRows : Told → List (Move Answer)
+toldRows (Nothing k) = []
+toldRows (One r k) = moveOf r ∷ []
+toldRows (Two s r k) = moveOf s ∷ moveOf r ∷ []
+toldRows Full = []
+
+abbrev pub keptBy : Kept → Told → Kept
+keptBy k (Nothing j) = j
+keptBy k (One r j) = j
+keptBy k (Two s r j) = j
+keptBy k Full = k
+
+module _ (says : List ℕ → Answer) (k : Kept) (a : Answer) (n : ℕ) (h : holds k n ≡ true) (some : 1 ≤ n) where
+  abbrev R : Reading Answer
+  R = answering says
+
+  abbrev row : Row
+  row = record { at = k .at; bytes = n; answer = a }
+
+  abbrev later : Kept
+  later = keptBy k (toldOf k a n)
+
+  -- what one call tells comes first among the rows that the moves give, and the rest follows from what it keeps
+  pub told-gives : (c : Bool) (ms : List (Move Answer))
+      → (given R c (runOf (k .skipped)) (moveOf row ∷ ms) ≡ toldRows (toldOf k a n) ++ given R c (runOf (later .skipped)) ms)
+      × (later .at ≡ k .at + n)
+      × (later .skipped .bytes ≤ k .skipped .bytes + n)
+  unfolding toldOf
+  told-gives c ms = rw h (go (isWhole (answerNumber a)) (eqb (k .skipped .bytes) 0) refl)
+    where
+      T : Bool → Bool → Told
+      T w z = cond (not w) (Nothing (record { at = k .at + n; skipped = joinedRow (k .skipped) row }))
+          (cond z (One row (record { at = k .at + n; skipped = noRow })) (Two (k .skipped) row (record { at = k .at + n; skipped = noRow })))
+
+      joined-bytes : (b : Bool) → cond b row (record { at = k .skipped .at; bytes = k .skipped .bytes + n; answer = k .skipped .answer }) .bytes ≤ k .skipped .bytes + n
+      joined-bytes true = omega arith
+      joined-bytes false = omega arith
+
+      go : (w z : Bool) → eqb (k .skipped .bytes) 0 ≡ z
+          → (cond (not w) (given R c (grown (runOf (k .skipped)) (moveOf row)) ms) (runOf (k .skipped) ++ (moveOf row ∷ given R c [] ms))
+          ≡ toldRows (T w z) ++ given R c (runOf (keptBy k (T w z) .skipped)) ms)
+          × (keptBy k (T w z) .at ≡ k .at + n)
+          × (keptBy k (T w z) .skipped .bytes ≤ k .skipped .bytes + n)
+      go false z e =
+          let g = sym (run-joined (k .skipped) row some) in
+          (ap (λ (l : List (Move Answer)). given R c l ms) g, refl, joined-bytes (eqb (k .skipped .bytes) 0))
+      go true true e = rw e ((refl, refl, omega arith))
+      go true false e = rw e ((refl, refl, omega arith))

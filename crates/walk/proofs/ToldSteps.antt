@@ -1,0 +1,56 @@
+-- What one move more gives, by the tests on its numbers.
+use Prim.Native.Nat.{ℕ, _+_, _-_, _≤_, _<_}
+use mathlib.Core.Path.{_≡_, refl, sym, ap, _∙_}
+use mathlib.Core.Bool.{Bool, true, false, cond, not, _&&_}
+use native.Mathlib.Omega.{arith}
+use lib.Dec.{eqb, leb}
+use borrow.Author.Tests.{eq-eqb, ne-eqb, le-leb, lt-leb}
+use Rattle.frame.specs.Answers.{answerNumber}
+use Rattle.frame.specs.declared.answer.Answer.{Answer}
+use Rattle.walk.specs.Walk.{isWhole}
+use Rattle.walk.specs.Tally.{isSkipped, largest}
+use Rattle.walk.specs.Told.{noRow, joinedRow, framedRow, holds, toldOf}
+use Rattle.walk.specs.declared.rows.Row.{Row}
+use Rattle.walk.specs.declared.rows.Kept.{Kept}
+use Rattle.walk.specs.declared.rows.Told.{Told}
+use Rattle.walk.specs.declared.rows.Told.the-variants.{Nothing, One, Two, Full}
+
+-- ---- rows that join
+module _ (s r : Row) where
+  pub joins-none : s .bytes ≡ 0 → r ≡ joinedRow s r
+  joins-none e = rw (eq-eqb (s .bytes) 0 e)
+
+  pub joins-some : (s .bytes ≡ 0 → ⊥) → record { at = s .at; bytes = s .bytes + r .bytes; answer = s .answer } ≡ joinedRow s r
+  joins-some e = rw (ne-eqb (s .bytes) 0 e)
+
+  module _ (at : ℕ) (none : Row) (is : none ≡ noRow) where
+    pub framed-alone : s .bytes ≡ 0 → One r (record { at = at; skipped = none }) ≡ framedRow s r at
+    framed-alone e = rw (eq-eqb (s .bytes) 0 e) (λ i. One r (record { at = at; skipped = is i }))
+
+    pub framed-behind : (s .bytes ≡ 0 → ⊥) → Two s r (record { at = at; skipped = none }) ≡ framedRow s r at
+    framed-behind e = rw (ne-eqb (s .bytes) 0 e) (λ i. Two s r (record { at = at; skipped = is i }))
+
+-- ---- what a move gives
+module _ (k : Kept) (a : Answer) (n : ℕ) (h : n ≤ largest) where
+  pub no-place : largest - n < k .at → Full ≡ toldOf k a n
+  unfolding toldOf
+  no-place l = rw (lt-leb (k .at + n) largest (omega arith))
+
+  module _ (p : k .at ≤ largest - n) where
+    pub no-run : largest - n < k .skipped .bytes → Full ≡ toldOf k a n
+    unfolding toldOf
+    no-run l = rw (le-leb (k .at + n) largest (omega arith), lt-leb (k .skipped .bytes + n) largest (omega arith))
+
+    module _ (q : k .skipped .bytes ≤ largest - n) where
+      pub held : holds k n ≡ true
+      held = rw (le-leb (k .at + n) largest (omega arith), le-leb (k .skipped .bytes + n) largest (omega arith))
+
+      pub told-frame : (t : Told) → t ≡ framedRow (k .skipped) (record { at = k .at; bytes = n; answer = a }) (k .at + n) → isWhole (answerNumber a) ≡ true
+          → t ≡ toldOf k a n
+      unfolding toldOf
+      told-frame t e w = rw (held, w) e
+
+      pub told-skip : (r : Row) → r ≡ joinedRow (k .skipped) (record { at = k .at; bytes = n; answer = a }) → isWhole (answerNumber a) ≡ false
+          → Nothing (record { at = k .at + n; skipped = r }) ≡ toldOf k a n
+      unfolding toldOf
+      told-skip r e w = rw (held, w) (λ i. Nothing (record { at = k .at + n; skipped = e i }))

@@ -1,0 +1,4 @@
+// Walking a line, whatever reading it takes: what an answer does to the place, to the tally and to the rows.
+pub mod past;
+pub mod rows;
+pub mod tally;
