@@ -1,0 +1,2 @@
+-- The walk over the stock exchange's line.
+pub mod Lines

@@ -1,0 +1,4 @@
+// Walking the stock exchange's line: move by move, in figures, and in rows while it comes in pieces.
+pub mod figures;
+pub mod moves;
+pub mod pieces;
