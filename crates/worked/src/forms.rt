@@ -1,37 +1,16 @@
-// Text put into a lent buffer. Each function answers the place behind what it put; what finds no room is left out.
+// Bytes, times and prices put into a lent buffer as text. Each function answers the place behind what it put.
+use text::put;
+use text::put_all;
+use text::put_number;
 
 // All nines in the place of a time with a fraction.
 const NINES: u64 = 999_999_999_999;
-
-pub(crate) fn put(out: &mut [u8], at: usize, b: u8) -> usize {
-    if at < out.len() {
-        out[at] = b;
-        return at + 1;
-    }
-    at
-}
-
-pub(crate) fn put_all(out: &mut [u8], at: usize, text: &[u8]) -> usize {
-    let mut to = at;
-    let mut i = 0;
-    while i < text.len() {
-        to = put(out, to, text[i]);
-        i += 1;
-    }
-    to
-}
 
 // Bytes as they are, in brackets.
 pub(crate) fn put_bracketed(out: &mut [u8], at: usize, text: &[u8]) -> usize {
     let at = put(out, at, b'[');
     let at = put_all(out, at, text);
     put(out, at, b']')
-}
-
-pub(crate) fn put_number(out: &mut [u8], at: usize, n: u64) -> usize {
-    let mut digits = [0u8; 20];
-    let k = io::decimal(n, &mut digits);
-    put_all(out, at, &digits[..k])
 }
 
 // The last two digits of a number.

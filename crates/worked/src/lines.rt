@@ -1,13 +1,10 @@
 // The line of each message, without its end.
-use crate::text::put;
-use crate::text::put_all;
-use crate::text::put_bracketed;
-use crate::text::put_clock;
-use crate::text::put_hex;
-use crate::text::put_number;
-use crate::text::put_price;
-use crate::text::put_time;
-use crate::text::put_two;
+use crate::forms::put_bracketed;
+use crate::forms::put_clock;
+use crate::forms::put_hex;
+use crate::forms::put_price;
+use crate::forms::put_time;
+use crate::forms::put_two;
 use digits::amounts::Pair;
 use digits::amounts::Price;
 use halts::Event;
@@ -18,6 +15,9 @@ use notices::Notice;
 use prices::Prices;
 use prices::Slot;
 use quotes::quote::Quote;
+use text::put;
+use text::put_all;
+use text::put_number;
 
 // A format's name and a message's number.
 fn put_head(out: &mut [u8], at: usize, name: &[u8], seq: u32) -> usize {

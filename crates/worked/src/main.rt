@@ -2,8 +2,8 @@
 // The input is the exchange's own worked examples, 65,536 bytes at most; tests/worked/make.py makes it.
 ghost use Prim.Native.Nat.{_≤_};
 
+mod forms;
 mod lines;
-mod text;
 
 use frame::answer::Answer;
 use frames::reading::read;

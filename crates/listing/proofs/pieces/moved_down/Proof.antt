@@ -1,28 +1,28 @@
--- `worked::text::put_all` is safe and ends: the buffer keeps its length, and each turn leaves fewer bytes of the text.
+-- `pieces::moved_down` is safe and ends: the buffer keeps its length, and each turn leaves fewer bytes to move.
 use Prim.Native.Nat.{_-_}
 use mathlib.Core.Path.{_≡_}
 use lib.ListN.{length}
 use borrow.Author.Needs.{needs}
-use Rattle.worked.proofs.text.put_all.Statement.{statement}
-use Rattle.worked.proofs.text.put_all.Tie as tie
+use Rattle.listing.proofs.pieces.moved_down.Statement.{statement}
+use Rattle.listing.proofs.pieces.moved_down.Tie as tie
 
 abbrev Inv-loop : tie.InvT-loop
-Inv-loop out₀ at text to₀ i₀ out to i = length out ≡ length out₀
+Inv-loop buf₀ at end to₀ from₀ buf to from = length buf ≡ length buf₀
 
 abbrev μ-loop : tie.MeasureT-loop
-μ-loop out₀ at text to₀ i₀ out to i = length text - i
+μ-loop buf₀ at end to₀ from₀ buf to from = end - from
 
 loop-holds : tie.Need-loop-holds Inv-loop μ-loop
 loop-holds c = search needs
 
-shared-slice-read-put : tie.Need-shared-slice-read-put Inv-loop μ-loop
-shared-slice-read-put c = search needs
+byte-at-requires : tie.Need-byte-at-requires Inv-loop μ-loop
+byte-at-requires c κs = search needs
 
 put-requires : tie.Need-put-requires Inv-loop μ-loop
 put-requires c κs = search needs
 
-add-i : tie.Need-add-i Inv-loop μ-loop
-add-i c = search needs
+add-from : tie.Need-add-from Inv-loop μ-loop
+add-from c = search needs
 
 loop-less : tie.Need-loop-less Inv-loop μ-loop
 loop-less c = search needs
@@ -36,16 +36,16 @@ same-length c = search needs
 returns : tie.Need-returns Inv-loop μ-loop
 returns c = search needs
 
-pub put-all-spec : {M : Type 1} → statement M
-put-all-spec =
+pub moved-down-spec : {M : Type 1} → statement M
+moved-down-spec =
     tie.close
     (tie.spec
     Inv-loop
     μ-loop
     loop-holds
-    shared-slice-read-put
+    byte-at-requires
     put-requires
-    add-i
+    add-from
     loop-less
     loop-again
     same-length

@@ -1,0 +1,2 @@
+-- Theorems that belong to no one function.
+pub mod ExampleHolds
