@@ -689,6 +689,19 @@ def dense_noise():
     yield good("05", notice())
 
 
+def many_buffers():
+    """Long enough for three more buffers of 65,536 bytes: tables and quotes whose places run through all remainders, so that a
+    buffer ends within frames, and a run of noise and of 27s that is longer than any frame at each end of a buffer."""
+    for part in range(3):
+        for n in range(150):
+            yield good("12", table(slot(code=b"%04d  " % (1101 + n))))
+            yield good("06", quote(0xA2))
+            yield noise(1, b"~" * (n % 7 + 1))
+        yield noise(1, b"~" * 2000)
+        yield noise(3, b"\x1b" * 100 + b"~~")
+        yield noise(1, b"~" * 1500)
+
+
 def cut_at_the_end():
     """Frames cut by the line's end answer 2, and a closed line skips their bytes one by one."""
     # At the very end a notice, cut inside its text: its own 27 answers 2, and so do those of 1B 00 14 and of 1B 1B.
@@ -728,6 +741,7 @@ CASES = [
     refused_13,
     mixed_runs,
     dense_noise,
+    many_buffers,
     cut_at_the_end,
 ]
 

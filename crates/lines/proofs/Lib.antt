@@ -3,3 +3,4 @@ pub mod LineLaws
 pub mod LineTheorems
 pub mod TurnLaws
 pub mod Determined
+pub mod DeterminedTally

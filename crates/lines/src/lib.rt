@@ -2,3 +2,4 @@
 pub mod figures;
 pub mod moves;
 pub mod pieces;
+pub mod tally;
