@@ -1,0 +1,20 @@
+//! An independent second program: the reading, writing, walking and counting of the exchange's frames, written from the
+//! paper (the owner's rules) and the specification (the exchange's B.12.07) alone, to be run beside the proved program
+//! and compared with it. It is ordinary code; nothing here is proved.
+
+pub mod digits;
+pub mod five;
+pub mod ledger;
+pub mod listing;
+pub mod nineteen;
+pub mod outline;
+pub mod reading;
+pub mod six;
+pub mod times;
+pub mod twelve;
+pub mod units;
+pub mod walk;
+pub mod writing;
+
+pub use reading::{read, Answer, Message, NoFrame, Refusal};
+pub use writing::{write, NotWritten};

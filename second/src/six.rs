@@ -1,0 +1,158 @@
+//! Format six, live quotes: code, time, reveal, limit and status bytes, total quantity, then as many pairs of price and
+//! quantity as the reveal byte says, in the order trade, bids, asks.
+
+use std::ops::RangeInclusive;
+
+use crate::digits;
+use crate::outline::GREATEST_NUMBER;
+use crate::reading::Refusal;
+use crate::times;
+use crate::units::{code_at, is_code, Code, Price, Quantity, CODE_ZERO};
+
+pub const FORMAT: u8 = 6;
+pub const VERSION: u8 = 4;
+pub const LENGTHS: RangeInclusive<usize> = 32..=131;
+pub const MOST_LEVELS: usize = 5;
+pub const MOST_PAIRS: usize = 1 + 2 * MOST_LEVELS;
+
+/// Bytes of the body before the pairs, and of one pair.
+const FIXED: usize = 19;
+const PAIR: usize = Price::SIZE + Quantity::SIZE;
+
+#[derive(Clone, Copy, Debug, Default, PartialEq, Eq)]
+pub struct Pair {
+    pub price: Price,
+    pub quantity: Quantity,
+}
+
+/// What a reveal byte says is sent.
+#[derive(Clone, Copy, Debug, PartialEq, Eq)]
+pub struct Reveal {
+    pub trade: bool,
+    pub bids: usize,
+    pub asks: usize,
+}
+
+impl Reveal {
+    pub fn of(byte: u8) -> Reveal {
+        Reveal { trade: byte & 0x80 != 0, bids: usize::from(byte >> 4 & 7), asks: usize::from(byte >> 1 & 7) }
+    }
+
+    /// Whether neither side has six or seven levels.
+    pub fn is_possible(self) -> bool {
+        self.bids <= MOST_LEVELS && self.asks <= MOST_LEVELS
+    }
+
+    pub fn pairs(self) -> usize {
+        usize::from(self.trade) + self.bids + self.asks
+    }
+}
+
+#[derive(Clone, Copy, Debug, PartialEq, Eq)]
+pub struct Quote {
+    pub number: u32,
+    pub code: Code,
+    /// HHMMSSffffff.
+    pub time: u64,
+    pub reveal: u8,
+    pub limit: u8,
+    pub status: u8,
+    pub total: Quantity,
+    /// Trade, bids, asks; zero behind those that the reveal byte says.
+    pub pairs: [Pair; MOST_PAIRS],
+}
+
+/// Twelve nines stand exactly with the code `000000`; any other time is a time of day.
+fn is_time(time: u64, code: &Code) -> bool {
+    if *code == CODE_ZERO {
+        time == times::LONG_NINES
+    } else {
+        times::is_long(time)
+    }
+}
+
+impl Quote {
+    pub fn read(number: u32, body: &[u8]) -> Result<Quote, Refusal> {
+        let reveal = Reveal::of(body[12]);
+        if !reveal.is_possible() {
+            return Err(Refusal::Levels);
+        }
+        if body.len() != FIXED + PAIR * reveal.pairs() {
+            return Err(Refusal::Length);
+        }
+        let code = code_at(body);
+        let time = digits::number(&body[6..12]).ok_or(Refusal::Digit)?;
+        let total = Quantity::unpack(&body[15..19]).ok_or(Refusal::Digit)?;
+        let mut pairs = [Pair::default(); MOST_PAIRS];
+        for (pair, field) in pairs.iter_mut().zip(body[FIXED..].chunks_exact(PAIR)) {
+            let (price, quantity) = field.split_at(Price::SIZE);
+            pair.price = Price::unpack(price).ok_or(Refusal::Digit)?;
+            pair.quantity = Quantity::unpack(quantity).ok_or(Refusal::Digit)?;
+        }
+        if !is_time(time, &code) {
+            return Err(Refusal::Time);
+        }
+        if !is_code(&code) {
+            return Err(Refusal::Field);
+        }
+        Ok(Quote { number, code, time, reveal: body[12], limit: body[13], status: body[14], total, pairs })
+    }
+
+    pub fn trade(&self) -> Option<Pair> {
+        Reveal::of(self.reveal).trade.then_some(self.pairs[0])
+    }
+
+    /// The bid levels, best first; empty if none is listed.
+    pub fn bids(&self) -> &[Pair] {
+        let reveal = Reveal::of(self.reveal);
+        let first = usize::from(reveal.trade);
+        &self.pairs[first..first + reveal.bids]
+    }
+
+    /// The ask levels, best first; empty if none is listed.
+    pub fn asks(&self) -> &[Pair] {
+        let reveal = Reveal::of(self.reveal);
+        let first = usize::from(reveal.trade) + reveal.bids;
+        &self.pairs[first..first + reveal.asks]
+    }
+
+    /// Whether this is the day's last frame.
+    pub fn ends_the_day(&self) -> bool {
+        self.time == times::LONG_NINES
+    }
+
+    /// Whether every field keeps its rule and range.
+    pub fn keeps_rules(&self) -> bool {
+        let reveal = Reveal::of(self.reveal);
+        if !reveal.is_possible() {
+            return false;
+        }
+        let (used, unused) = self.pairs.split_at(reveal.pairs());
+        self.number <= GREATEST_NUMBER
+            && is_code(&self.code)
+            && is_time(self.time, &self.code)
+            && self.total <= Quantity::MAX
+            && used.iter().all(|pair| pair.price <= Price::MAX && pair.quantity <= Quantity::MAX)
+            && unused.iter().all(|pair| *pair == Pair::default())
+    }
+
+    /// The frame's length, for a message that keeps the rules.
+    pub fn length(&self) -> usize {
+        *LENGTHS.start() + PAIR * Reveal::of(self.reveal).pairs()
+    }
+
+    /// Writes the body, for a message that keeps the rules.
+    pub fn write(&self, body: &mut [u8]) {
+        body[..6].copy_from_slice(&self.code);
+        digits::pack(self.time, &mut body[6..12]);
+        body[12] = self.reveal;
+        body[13] = self.limit;
+        body[14] = self.status;
+        self.total.pack(&mut body[15..19]);
+        for (field, pair) in body[FIXED..].chunks_exact_mut(PAIR).zip(&self.pairs) {
+            let (price, quantity) = field.split_at_mut(Price::SIZE);
+            pair.price.pack(price);
+            pair.quantity.pack(quantity);
+        }
+    }
+}
