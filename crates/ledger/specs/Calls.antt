@@ -1,0 +1,88 @@
+-- What each call answers, in the paper's order, and what an arrival leaves.
+use Prim.Native.Nat.{ℕ, _+_}
+use mathlib.Core.Bool.{Bool, cond, not, _||_}
+use mathlib.Core.List.{List}
+use lib.ListN.{length, replicate}
+use lib.Dec.{ltb, eqb}
+use Rattle.ledger.specs.Ends.{places, falling, heardAt, highestIn, heardIn, missingIn, runsIn, firstOf, lastOf, withNumber, fitted}
+use Rattle.ledger.specs.declared.record.Ledger.{Ledger}
+use Rattle.ledger.specs.declared.record.Arrival.{Arrival}
+use Rattle.ledger.specs.declared.record.Arrived.{Arrived}
+use Rattle.ledger.specs.declared.record.Figure.{Figure}
+use Rattle.ledger.specs.declared.record.RunAt.{RunAt}
+
+-- the largest number that may arrive, and the most runs that may be missing
+abbrev pub mostNumber : ℕ
+mostNumber = 99999999
+
+abbrev pub mostRuns : ℕ
+mostRuns = 64
+
+-- the paper's number of an answer, 0 for one that is no refusal
+abbrev pub arrivalNumber : Arrival → ℕ
+arrivalNumber Arrival.New = 0
+arrivalNumber Arrival.Repeat = 0
+arrivalNumber (Arrival.Refused n) = n
+
+abbrev pub figureNumber : Figure → ℕ
+figureNumber (Figure.Is n) = 0
+figureNumber (Figure.Refused n) = n
+
+abbrev pub runNumber : RunAt → ℕ
+runNumber (RunAt.Run first last) = 0
+runNumber (RunAt.Refused n) = n
+
+-- a fresh ledger: highest 0, heard 0, no runs
+abbrev pub fresh : Ledger
+fresh = record { ends = replicate places 0 }
+
+-- a record that a series of arrivals can leave; every other one answers 20
+unfoldable pub valid : Ledger → Bool
+valid l = falling (mostNumber + 1) (l .ends)
+
+-- an answer that leaves the ledger as it was
+abbrev pub stays : Ledger → Arrival → Arrived
+stays l a = record { ledger = l; answer = a }
+
+-- an arrival: 20; 21 for 0 or above 99,999,999; repeat if already recorded; 22 if it would leave more than 64 runs; else new
+unfoldable pub arrivedOf : Ledger → ℕ → Arrived
+arrivedOf l n =
+    let more = withNumber n (l .ends) in
+    cond (not (valid l)) (stays l (Arrival.Refused 20))
+    (cond (eqb n 0 || ltb mostNumber n) (stays l (Arrival.Refused 21))
+    (cond (heardAt (l .ends) n) (stays l Arrival.Repeat)
+    (cond (ltb mostRuns (runsIn more)) (stays l (Arrival.Refused 22))
+    (record { ledger = record { ends = fitted more }; answer = Arrival.New }))))
+
+-- the ledger with these ends
+abbrev pub withEnds : List ℕ → Ledger
+withEnds es = record { ends = es }
+
+-- an arrival in a ledger that is lent as its ends: 20 where they are not as many as a record has
+abbrev pub lentArrivedOf : List ℕ → ℕ → Arrived
+lentArrivedOf es n = cond (eqb (length es) places) (arrivedOf (withEnds es) n) (stays (withEnds es) (Arrival.Refused 20))
+
+-- a figure of a ledger: 20, else the figure
+abbrev pub figureBy : Bool → ℕ → Figure
+figureBy ok n = cond (not ok) (Figure.Refused 20) (Figure.Is n)
+
+abbrev pub figureOf : Ledger → ℕ → Figure
+figureOf l n = figureBy (valid l) n
+
+abbrev pub highestOf : Ledger → Figure
+highestOf l = figureOf l (highestIn (l .ends))
+
+abbrev pub heardOf : Ledger → Figure
+heardOf l = figureOf l (heardIn (l .ends))
+
+abbrev pub missingOf : Ledger → Figure
+missingOf l = figureOf l (missingIn (l .ends))
+
+abbrev pub runsOf : Ledger → Figure
+runsOf l = figureOf l (runsIn (l .ends))
+
+-- the run at a place, the lowest at 0: 20, then 23 if there is none
+abbrev pub runOf : Ledger → ℕ → RunAt
+runOf l k =
+    cond (not (valid l)) (RunAt.Refused 20)
+    (cond (ltb k (runsIn (l .ends))) (RunAt.Run (firstOf (l .ends) k) (lastOf (l .ends) k)) (RunAt.Refused 23))

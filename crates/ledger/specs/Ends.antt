@@ -1,0 +1,65 @@
+-- What a record holds: the last number of each unbroken stretch, heard and missing by turns, from the highest down.
+use Prim.Native.Nat.{ℕ, _+_, _-_, _*_, _/_, _%_}
+use mathlib.Core.Bool.{Bool, true, cond, _&&_}
+use mathlib.Core.List.{List, [], _∷_, _++_}
+use lib.ListN.{getD, take, replicate}
+use lib.Dec.{leb, ltb, eqb}
+
+-- the highest, and two ends for each of 64 runs
+abbrev pub places : ℕ
+places = 129
+
+-- each end lies below the one before it, the first below a bound; behind the last stand zeros
+abbrev pub falling : ℕ → List ℕ → Bool
+falling bound [] = true
+falling bound (e ∷ es) = leb e (bound - 1) && falling e es
+
+-- how many ends are a number or above it
+abbrev pub endsFrom : ℕ → List ℕ → ℕ
+endsFrom n [] = 0
+endsFrom n (e ∷ es) = cond (leb n e) 1 0 + endsFrom n es
+
+-- a number stands in a heard stretch when that count is odd
+abbrev pub heardAt : List ℕ → ℕ → Bool
+heardAt es n = eqb (endsFrom n es % 2) 1
+
+-- the first end is the highest number
+abbrev pub highestIn : List ℕ → ℕ
+highestIn es = getD es 0 0
+
+-- what is heard up to the first end: all, less what is missing; that is all up to the next end, less what is heard there; and so on
+abbrev pub heardIn : List ℕ → ℕ
+heardIn [] = 0
+heardIn (e ∷ es) = e - heardIn es
+
+-- the others up to the highest
+abbrev pub missingIn : List ℕ → ℕ
+missingIn es = highestIn es - heardIn es
+
+-- a missing run has two ends, its own and that of the stretch below, which is 0 for a run from 1
+abbrev pub runsIn : List ℕ → ℕ
+runsIn es = endsFrom 1 es / 2
+
+-- the first and the last number of the run at a place, counted from the lowest
+abbrev pub firstOf : List ℕ → ℕ → ℕ
+firstOf es k = getD es (2 * (runsIn es - k)) 0 + 1
+
+abbrev pub lastOf : List ℕ → ℕ → ℕ
+lastOf es k = getD es (2 * (runsIn es - k) - 1) 0
+
+-- an end put in at its place, or taken out if it is there: every number up to it changes sides
+abbrev pub turned : ℕ → List ℕ → List ℕ
+turned x [] = x ∷ []
+turned x (e ∷ es) = cond (ltb x e) (e ∷ turned x es) (cond (eqb x e) es (x ∷ e ∷ es))
+
+-- the numbers above a up to b change sides
+abbrev pub withRun : ℕ → ℕ → List ℕ → List ℕ
+withRun a b es = turned a (turned b es)
+
+-- one number changes sides
+abbrev pub withNumber : ℕ → List ℕ → List ℕ
+withNumber n es = withRun (n - 1) n es
+
+-- as many places as a record has, zeros behind the last end
+abbrev pub fitted : List ℕ → List ℕ
+fitted es = take places (es ++ replicate places 0)

@@ -1,0 +1,47 @@
+-- Sets of numbers from 1 on, and what a ledger has to say of one. Nothing here knows how a ledger holds a set.
+use Prim.Native.Nat.{ℕ, zero, suc, _+_, _-_, _≤_, _<_}
+use mathlib.Core.Path.{_≡_}
+use mathlib.Core.Bool.{Bool, true, false, cond, not, _&&_, _||_}
+use mathlib.Core.Logic.{_⊎_}
+use lib.Dec.{eqb}
+
+-- the set with a number put in
+abbrev pub with : ℕ → (ℕ → Bool) → ℕ → Bool
+with n f y = eqb y n || f y
+
+-- how many of the numbers 1 to k are in a set
+abbrev pub countTo : (ℕ → Bool) → ℕ → ℕ
+countTo f zero = 0
+countTo f (suc k) = cond (f (suc k)) 1 0 + countTo f k
+
+-- a missing run starts at a number that is not in the set, if it is 1 or the number before is in the set
+abbrev pub startsRun : (ℕ → Bool) → ℕ → Bool
+startsRun f y = not (f y) && (eqb y 1 || f (y - 1))
+
+-- how many missing runs start at the numbers 1 to k
+abbrev pub runsTo : (ℕ → Bool) → ℕ → ℕ
+runsTo f k = countTo (startsRun f) k
+
+-- the highest number of a set, 0 if it has none
+pub record Highest (f : ℕ → Bool) (top : ℕ) : Type 0 where
+  pub there : (top ≡ 0) ⊎ (f top ≡ true)
+  pub none-above : (y : ℕ) → top < y → f y ≡ false
+
+-- a longest unbroken run of numbers from 1 to the highest that are not in the set
+pub record Longest (f : ℕ → Bool) (top first last : ℕ) : Type 0 where
+  pub from-one : 1 ≤ first
+  pub in-order : first ≤ last
+  pub to-highest : last ≤ top
+  pub missing : (y : ℕ) → first ≤ y → y ≤ last → f y ≡ false
+  pub none-below : (first ≡ 1) ⊎ (f (first - 1) ≡ true)
+  pub none-behind : (last ≡ top) ⊎ (f (last + 1) ≡ true)
+
+-- figures and runs that are those of a set; the runs are its longest ones, each once, rising by their place
+pub record TrueOf (f : ℕ → Bool) (highest heard missing runs : ℕ) (first last : ℕ → ℕ) : Type 0 where
+  pub is-highest : Highest f highest
+  pub is-heard : heard ≡ countTo f highest
+  pub adds-up : heard + missing ≡ highest
+  pub is-runs : runs ≡ runsTo f highest
+  pub each-longest : (k : ℕ) → k < runs → Longest f highest (first k) (last k)
+  pub rising : (j k : ℕ) → j < k → k < runs → last j < first k
+  pub every-longest : (a b : ℕ) → Longest f highest a b → (k : ℕ) × (k < runs) × (first k ≡ a) × (last k ≡ b)

@@ -1,0 +1,36 @@
+// The record that a desk lends, and the answers to its calls.
+
+// The numbers from 1 to the highest fall into unbroken stretches, heard and missing by turns. From the top down, the last
+// number of each stretch, first the highest, which ends a heard one; then zeros. 64 missing runs take 129 places.
+pub struct Ledger {
+    pub ends: [u32; 129],
+}
+
+// What an arrival is answered.
+pub enum Arrival {
+    New,
+    Repeat,
+    // 20, 21 or 22
+    Refused(u8),
+}
+
+// The ledger after an arrival; as it was unless the answer is `New`.
+pub struct Arrived {
+    pub ledger: Ledger,
+    pub answer: Arrival,
+}
+
+// What a question for a figure is answered.
+pub enum Figure {
+    Is(u32),
+    // 20
+    Refused(u8),
+}
+
+// What a question for the missing run at a place is answered.
+pub enum RunAt {
+    // its first and its last number
+    Run(u32, u32),
+    // 20 or 23
+    Refused(u8),
+}
