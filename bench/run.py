@@ -112,19 +112,23 @@ def write(path, block, size):
 # ---------------------------------------------------------------------------------------------------------------------
 
 def best(command, line, output):
-    """The best time of some runs, with the file in memory already, and the most memory in kilobytes."""
-    times, memory = [], 0
+    """The best time of some runs, with the file in memory already."""
+    times = []
     for _ in range(RUNS):
         with open(line, "rb") as source, open(output, "wb") as sink:
             start = time.perf_counter()
-            child = subprocess.Popen([str(w) for w in command], stdin=source, stdout=sink)
-            _, status, used = os.wait4(child.pid, 0)
+            run(*command, stdin=source, stdout=sink)
             times.append(time.perf_counter() - start)
-        child.returncode = status
-        if status:
-            sys.exit(f"bench: {command[-1]} failed")
-        memory = max(memory, used.ru_maxrss)
-    return min(times), memory
+    return min(times)
+
+
+def memory(command, line):
+    """The most memory of a run in kilobytes, where there is a command that tells."""
+    if not os.path.exists("/usr/bin/time"):
+        return "-"
+    with open(line, "rb") as source:
+        told = run("/usr/bin/time", "-f", "%M", *command, stdin=source, stdout=subprocess.DEVNULL, stderr=subprocess.PIPE)
+    return told.stderr.decode().split()[-1] + " KB"
 
 
 def main():
@@ -137,10 +141,10 @@ def main():
     for name, block, wanted in lines(size):
         write(line, block, wanted)
         length = line.stat().st_size
-        (mine, memory), (other, _) = best(ours, line, a), best(theirs, line, b)
+        mine, other = best(ours, line, a), best(theirs, line, b)
         if run("cmp", a, b, stdout=subprocess.DEVNULL).returncode:
             sys.exit(f"bench: the listings of {name} differ")
-        print(f"{name:30} {length / 1e6:6.1f} {mine:8.3f}s {other:8.3f}s {mine / other:6.2f} {length / mine / 1e6:7.0f} {mine / length * 1e9:8.2f} {memory:6} KB")
+        print(f"{name:30} {length / 1e6:6.1f} {mine:8.3f}s {other:8.3f}s {mine / other:6.2f} {length / mine / 1e6:7.0f} {mine / length * 1e9:8.2f} {memory(ours, line):>9}")
     for path in (line, a, b):
         path.unlink()
 

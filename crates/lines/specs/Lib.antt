@@ -1,2 +1,3 @@
 -- The walk over the stock exchange's line.
 pub mod Lines
+pub mod Steps

@@ -11,5 +11,6 @@ pub mod AnswerLaws
 pub mod ToldSteps
 pub mod ToldLaws
 pub mod NextLaws
+pub mod NoiseLaws
 pub mod ListedLaws
 pub mod Determined

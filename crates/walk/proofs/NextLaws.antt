@@ -62,20 +62,8 @@ module _ (says : List ℕ → Answer) (longest : ℕ) (S : Sound (answering says
           sym (ap (λ (ms : List (Move Answer)). nextOf ms k at)
           (walk-stop says longest S c line (k .at) at (past-stops says longest S c (drop at line) (some-left says longest S c line at h) e) .0))
 
-      module _ (e : pastOf c (says (drop at line)) ≡ 0 → ⊥) (t : Told) (is : t ≡ toldOf k (says (drop at line)) (pastOf c (says (drop at line)))) where
-        abbrev n : ℕ
-        n = pastOf c (says (drop at line))
-
-        told-next : ahead k at ≡ onTold t (at + n) (nextOf (walkFrom R c (k .at + n) (drop (at + n) line)))
-        told-next =
-            ap (λ (ms : List (Move Answer)). nextOf ms k at) (walk-turn says longest S c line (k .at) at h e .0)
-            ∙ ap (λ (u : Told). onTold u (at + n) (nextOf (walkFrom R c (k .at + n) (drop (at + n) line)))) (sym is)
-
-        pub next-nothing : (j : Kept) → t ≡ Nothing j → ahead j (at + n) ≡ ahead k at
-        next-nothing j q =
-            let place = kept-behind k (says (drop at line)) n j (sym is ∙ q) in
-            ap (λ (p : ℕ). nextOf (walkFrom R c p (drop (at + n) line)) j (at + n)) place
-            ∙ sym (told-next ∙ ap (λ (u : Told). onTold u (at + n) (nextOf (walkFrom R c (k .at + n) (drop (at + n) line)))) q)
-
-        pub next-rows : (r : Next) → r ≡ onTold t (at + n) (nextOf (walkFrom R c (k .at + n) (drop (at + n) line))) → r ≡ ahead k at
-        next-rows r q = q ∙ sym told-next
+      -- one move more
+      pub next-told : (e : pastOf c (says (drop at line)) ≡ 0 → ⊥)
+          → let n = pastOf c (says (drop at line)) in
+          ahead k at ≡ onTold (toldOf k (says (drop at line)) n) (at + n) (nextOf (walkFrom R c (k .at + n) (drop (at + n) line)))
+      next-told e = ap (λ (ms : List (Move Answer)). nextOf ms k at) (walk-turn says longest S c line (k .at) at h e .0)

@@ -5,12 +5,13 @@ use mathlib.Core.Bool.{Bool, true, false, cond, not, _&&_}
 use mathlib.Core.List.{List, [], _∷_, _++_}
 use native.Mathlib.Omega.{arith}
 use lib.Dec.{eqb, leb}
-use borrow.Author.Tests.{eq-eqb, ne-eqb, eqb-true, eqb-false}
+use borrow.Author.Tests.{eq-eqb, ne-eqb, eqb-true, eqb-false, le-leb, leb-true}
+use Rattle.digits.proofs.Bools.{and-left, and-right, and-both, no-false}
 use Rattle.frame.specs.Answers.{answerNumber, answerLength}
 use Rattle.frame.specs.declared.answer.Answer.{Answer}
 use Rattle.walk.specs.Walk.{Reading, Move, isWhole}
 use Rattle.walk.specs.Answers.{answering}
-use Rattle.walk.specs.Tally.{isSkipped}
+use Rattle.walk.specs.Tally.{isSkipped, largest}
 use Rattle.walk.specs.Rows.{skips, longer}
 use Rattle.walk.specs.Pieces.{grown, given, kept}
 use Rattle.walk.specs.Told.{moveOf, noRow, joinedRow, framedRow, holds, toldOf}
@@ -81,3 +82,61 @@ module _ (says : List ℕ → Answer) (k : Kept) (a : Answer) (n : ℕ) (h : hol
           (ap (λ (l : List (Move Answer)). given R c l ms) g, refl, joined-bytes (eqb (k .skipped .bytes) 0))
       go true true e = rw e ((refl, refl, omega arith))
       go true false e = rw e ((refl, refl, omega arith))
+
+-- ---- skipped bytes at once
+-- as many skipped bytes at once give what they give one after the other
+module _ (k : Kept) (a : Answer) (skip : isSkipped (answerNumber a) ≡ true) (n m : ℕ) (some : 1 ≤ n) where
+  abbrev first : Row
+  first = record { at = k .at; bytes = n; answer = a }
+
+  -- what is kept of the first ones
+  abbrev pub half : Kept
+  half = record { at = k .at + n; skipped = joinedRow (k .skipped) first }
+
+  joined-twice : joinedRow (joinedRow (k .skipped) first) (record { at = k .at + n; bytes = m; answer = a }) ≡ joinedRow (k .skipped) (record { at = k .at; bytes = n + m; answer = a })
+  joined-twice = go (eqb (k .skipped .bytes) 0) refl
+    where
+      sum : k .skipped .bytes + n + m ≡ k .skipped .bytes + (n + m)
+      sum = omega arith
+
+      go : (b : Bool) → eqb (k .skipped .bytes) 0 ≡ b
+          → joinedRow (cond b first (record { at = k .skipped .at; bytes = k .skipped .bytes + n; answer = k .skipped .answer })) (record { at = k .at + n; bytes = m; answer = a })
+          ≡ cond b (record { at = k .at; bytes = n + m; answer = a }) (record { at = k .skipped .at; bytes = k .skipped .bytes + (n + m); answer = k .skipped .answer })
+      go true e = rw (ne-eqb n 0 (λ q. omega (arith, q, some)))
+      go false e = rw (ne-eqb (k .skipped .bytes + n) 0 (λ q. omega (arith, q, some))) (λ i. record { at = k .skipped .at; bytes = sum i; answer = k .skipped .answer })
+
+  same-bytes : joinedRow (k .skipped) first .bytes + m ≡ k .skipped .bytes + (n + m)
+  same-bytes = go (eqb (k .skipped .bytes) 0) refl
+    where
+      go : (b : Bool) → eqb (k .skipped .bytes) 0 ≡ b
+          → cond b first (record { at = k .skipped .at; bytes = k .skipped .bytes + n; answer = k .skipped .answer }) .bytes + m ≡ k .skipped .bytes + (n + m)
+      go true e = omega (arith, eqb-true (k .skipped .bytes) 0 e)
+      go false e = omega arith
+
+  same-place : k .at + n + m ≡ k .at + (n + m)
+  same-place = omega arith
+
+  pub told-half : holds k n ≡ true → toldOf k a n ≡ Nothing half
+  unfolding toldOf
+  told-half h = rw (h, skip)
+
+  pub told-twice : toldOf half a m ≡ toldOf k a (n + m)
+  unfolding toldOf
+  told-twice =
+      rw skip
+      (λ i. cond (leb (same-place i) largest && leb (same-bytes i) largest) (Nothing (record { at = same-place i; skipped = joined-twice i })) Full)
+
+  -- room for all is room for the first ones
+  no-more : holds k n ≡ false → holds k (n + m) ≡ false
+  no-more h = go (holds k (n + m)) refl
+    where
+      go : (b : Bool) → holds k (n + m) ≡ b → b ≡ false
+      go false e = refl
+      go true e =
+          let x = leb-true (k .at + (n + m)) largest (and-left _ _ e) in
+          let y = leb-true (k .skipped .bytes + (n + m)) largest (and-right (leb (k .at + (n + m)) largest) _ e) in
+          absurd (no-false (sym h ∙ and-both (le-leb (k .at + n) largest (omega (arith, x))) (le-leb (k .skipped .bytes + n) largest (omega (arith, y)))))
+
+  pub told-full : holds k n ≡ false → (toldOf k a n ≡ Full) × (toldOf k a (n + m) ≡ Full)
+  unfolding toldOf
+  told-full h = (rw h, rw (no-more h))

@@ -7,3 +7,4 @@ pub mod Rows
 pub mod Pieces
 pub mod Told
 pub mod Listed
+pub mod Noise

@@ -6,7 +6,7 @@ use borrow.Author.Needs.{needs}
 use lib.ListN.{length}
 use Rattle.walk.specs.declared.rows.Told.{Told}
 use Rattle.walk.specs.declared.rows.Told.the-variants.{Nothing, One, Two, Full}
-use Rattle.lines.proofs.TurnLaws.{Turn, toGive, stays-within, gives-no-more, gives-nothing, goes-on, gives-one, gives-two, gives-full}
+use Rattle.lines.proofs.TurnLaws.{Met, toGive, met-within, met-stops, gives-no-more, goes-on, gives-one, gives-two, gives-full}
 use Rattle.lines.proofs.pieces.next_rows.Statement.{statement}
 use Rattle.lines.proofs.pieces.next_rows.Tie as tie
 
@@ -19,24 +19,21 @@ abbrev μ-loop : tie.MeasureT-loop
 loop-holds : tie.Need-loop-holds Inv-loop μ-loop
 loop-holds c = refl
 
-read-requires : tie.Need-read-requires Inv-loop μ-loop
-read-requires c κs = tt
+stretch-at-requires : tie.Need-stretch-at-requires Inv-loop μ-loop
+stretch-at-requires c κs = tt
 
-past-requires : tie.Need-past-requires Inv-loop μ-loop
-past-requires c κs = tt
-
--- a turn's answer and move
-turn : (c : tie.After-past Inv-loop μ-loop)
-    → let l = c .before .before in
+-- a turn's stretch
+met : (c : tie.After-stretch-at Inv-loop μ-loop)
+    → let l = c .before in
     let a = l .before .before .before .args in
-    Turn (a .closed) (a .line .now) (l .before .loop .at) (c .before .read .result) (c .past .result)
-turn c = record { left-over = c .before .before .loop-test .taken; says = c .before .read .ensures; moves = c .past .ensures }
+    Met (a .closed) (a .line .now) (l .before .loop .at) (c .stretch-at .result)
+met c = record { left-over = c .before .loop-test .taken; is = c .stretch-at .ensures }
 
 returns : tie.Need-returns Inv-loop μ-loop
-returns c = let l = c .before .before .before .before .loop in gives-nothing (turn (c .before)) (l .kept) (c .if1 .taken) ∙ l .inv
+returns c = let l = c .before .before .before .loop in met-stops (met (c .before)) (c .if1 .taken) (l .kept) ∙ l .inv
 
 add-at : tie.Need-add-at Inv-loop μ-loop
-add-at c = let e = stays-within (turn (c .before)) (c .if1 .left) in search needs
+add-at c = let e = met-within (met (c .before)) (c .if1 .left) in search needs
 
 told-requires : tie.Need-told-requires Inv-loop μ-loop
 told-requires c κs = tt
@@ -47,13 +44,13 @@ enum-known-later c = search needs
 loop-less : tie.Need-loop-less Inv-loop μ-loop
 loop-less c =
     let e = c .before .before .before .before in
-    omega (arith, stays-within (turn (e .before)) (e .if1 .left), e .if1 .left, e .before .before .before .loop-test .taken)
+    omega (arith, met-within (met (e .before)) (e .if1 .left), e .if1 .left, e .before .before .loop-test .taken)
 
 loop-again : tie.Need-loop-again Inv-loop μ-loop
 loop-again c =
     let t = c .before .before .before in
-    let l = t .before .before .before .before .before .loop in
-    goes-on (turn (t .before .before)) (l .kept) (t .before .if1 .left) (t .told .result) (t .told .ensures) (c .before .later .given .0 .0) (c .before .later .given .1)
+    let l = t .before .before .before .before .loop in
+    goes-on (met (t .before .before)) (l .kept) (t .before .if1 .left) (t .told .result) (t .told .ensures) (c .before .later .given .0 .0) (c .before .later .given .1)
     ∙ l .inv
 
 enum-known-row : tie.Need-enum-known-row Inv-loop μ-loop
@@ -62,8 +59,8 @@ enum-known-row c = search needs
 returns-2 : tie.Need-returns-2 Inv-loop μ-loop
 returns-2 c =
     let t = c .before .before .before in
-    let l = t .before .before .before .before .before .loop in
-    gives-one (turn (t .before .before)) (l .kept) (t .before .if1 .left) (t .told .result) (t .told .ensures) (c .before .row .given .0 .0) (c .before .row .given .0 .1 .0) (c .before .row .given .1)
+    let l = t .before .before .before .before .loop in
+    gives-one (met (t .before .before)) (l .kept) (t .before .if1 .left) (t .told .result) (t .told .ensures) (c .before .row .given .0 .0) (c .before .row .given .0 .1 .0) (c .before .row .given .1)
     ∙ l .inv
 
 enum-known-skipped : tie.Need-enum-known-skipped Inv-loop μ-loop
@@ -72,8 +69,8 @@ enum-known-skipped c = search needs
 returns-3 : tie.Need-returns-3 Inv-loop μ-loop
 returns-3 c =
     let t = c .before .before .before in
-    let l = t .before .before .before .before .before .loop in
-    gives-two (turn (t .before .before)) (l .kept) (t .before .if1 .left) (t .told .result) (t .told .ensures) (c .before .skipped .given .0 .0) (c .before .skipped .given .0 .1 .0) (c .before .skipped .given .0 .1 .1 .0) (c .before .skipped .given .1)
+    let l = t .before .before .before .before .loop in
+    gives-two (met (t .before .before)) (l .kept) (t .before .if1 .left) (t .told .result) (t .told .ensures) (c .before .skipped .given .0 .0) (c .before .skipped .given .0 .1 .0) (c .before .skipped .given .0 .1 .1 .0) (c .before .skipped .given .1)
     ∙ l .inv
 
 enum-told : tie.Need-enum-told Inv-loop μ-loop
@@ -82,8 +79,8 @@ enum-told c = search needs
 returns-4 : tie.Need-returns-4 Inv-loop μ-loop
 returns-4 c =
     let t = c .before .before in
-    let l = t .before .before .before .before .before .loop in
-    gives-full (turn (t .before .before)) (l .kept) (t .before .if1 .left) (t .told .result) (t .told .ensures) (c .enum-told .given .1)
+    let l = t .before .before .before .before .loop in
+    gives-full (met (t .before .before)) (l .kept) (t .before .if1 .left) (t .told .result) (t .told .ensures) (c .enum-told .given .1)
     ∙ l .inv
 
 returns-5 : tie.Need-returns-5 Inv-loop μ-loop
@@ -98,8 +95,7 @@ next-rows-spec =
     Inv-loop
     μ-loop
     loop-holds
-    read-requires
-    past-requires
+    stretch-at-requires
     returns
     add-at
     told-requires
