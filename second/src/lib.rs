@@ -2,13 +2,22 @@
 //! paper (the owner's rules) and the specification (the exchange's B.12.07) alone, to be run beside the proved program
 //! and compared with it. It is ordinary code; nothing here is proved.
 
+pub mod compare;
 pub mod digits;
 pub mod five;
+pub mod gaps;
+pub mod generate;
 pub mod ledger;
 pub mod listing;
+pub mod messages;
 pub mod nineteen;
+pub mod numbers;
 pub mod outline;
+pub mod pieces;
+pub mod random;
 pub mod reading;
+pub mod seen;
+pub mod series;
 pub mod six;
 pub mod times;
 pub mod twelve;

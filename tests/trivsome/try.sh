@@ -27,6 +27,12 @@ listing() { ./trivsome listing 2>"$work/said"; }
 expect 0 listing <$stored/stdin >"$work/file"
 cmp "$work/file" $stored/stdout || differs "a file is listed otherwise"
 
+for name in messages gaps; do
+    expect 0 ./trivsome $name <crates/$name/stdin >"$work/file"
+    cmp "$work/file" crates/$name/stdout || differs "$name prints something else"
+    if [ -c /dev/full ]; then expect 1 ./trivsome $name <crates/$name/stdin >/dev/full 2>"$work/said"; fi
+done
+
 # pieces of 1 to 4,096 bytes
 for size in 1 1021 4096; do
     head -c 70000 $stored/stdin | dd bs=$size 2>/dev/null | listing >"$work/pipe"

@@ -1,9 +1,14 @@
 //! The paper's edges and the specification's worked examples, and tests of each module. One program, to keep builds small.
 
 mod build;
+mod comparing;
 mod edges;
+mod gaps;
+mod generating;
 mod ledger;
 mod listing;
+mod messages;
+mod numbers;
 mod reading;
 mod walking;
 mod worked;

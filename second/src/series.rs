@@ -1,0 +1,172 @@
+//! Series of frame numbers for the comparison of ledgers: in order, with gaps, late, twice, and with more runs than there is
+//! room for.
+
+use std::fmt::Write;
+
+use crate::ledger::{Ledger, GREATEST_NUMBER, MOST_RUNS};
+use crate::random::Random;
+
+/// The most bytes of one text: the proved program reads no more than 65,536.
+const TEXT: usize = 60_000;
+
+#[derive(Clone, Copy)]
+enum Phase {
+    Order,
+    Gaps,
+    Late,
+    Mixed,
+}
+
+/// A series over a ledger of its own, by which it knows what is missing.
+pub struct Series {
+    ledger: Ledger,
+    phase: Phase,
+    left: usize,
+}
+
+impl Default for Series {
+    fn default() -> Series {
+        Series { ledger: Ledger::FRESH, phase: Phase::Order, left: 10 }
+    }
+}
+
+impl Series {
+    /// The next number, 0 to 99,999,999.
+    pub fn next(&mut self, random: &mut Random) -> u32 {
+        if self.left == 0 {
+            self.phase =
+                random.pick(&[Phase::Order, Phase::Order, Phase::Gaps, Phase::Late, Phase::Late, Phase::Mixed]);
+            self.left = match self.phase {
+                Phase::Gaps => random.within(10..=120),
+                _ => random.within(10..=250),
+            };
+        }
+        self.left -= 1;
+        let highest = self.ledger.highest;
+        let number = match self.phase {
+            Phase::Order => match random.below(20) {
+                0 => self.heard_before(random),
+                1 => highest + 2,
+                _ => highest + 1,
+            },
+            Phase::Gaps => match random.below(10) {
+                0 => highest + 1,
+                1 => self.late(random),
+                _ => highest + 2 + random.below(3) as u32,
+            },
+            Phase::Late => match random.below(30) {
+                0 => highest + 1,
+                1 => self.heard_before(random),
+                _ => self.late(random),
+            },
+            Phase::Mixed => match random.below(8) {
+                0 => 0,
+                1 => self.heard_before(random),
+                2 => self.late(random),
+                3 => highest + 2 + random.below(20) as u32,
+                4 if random.one_in(50) => highest + random.below(100_000) as u32,
+                5 if random.one_in(500) => random.amount(u64::from(GREATEST_NUMBER)) as u32,
+                _ => highest + 1,
+            },
+        };
+        number.min(GREATEST_NUMBER)
+    }
+
+    /// Records that a number came, so that the next one goes on from there.
+    pub fn came(&mut self, number: u32) {
+        let _ = self.ledger.arrival(number);
+    }
+
+    /// Anything up to the highest, mostly heard already.
+    fn heard_before(&self, random: &mut Random) -> u32 {
+        match random.below(3) {
+            0 => self.ledger.highest,
+            1 => self.ledger.highest.saturating_sub(random.below(10) as u32),
+            _ => random.below(u64::from(self.ledger.highest) + 1) as u32,
+        }
+    }
+
+    /// A missing number: a run's first, last or any; often of the shortest run, so that runs are filled.
+    fn late(&self, random: &mut Random) -> u32 {
+        let runs = &self.ledger.runs[..self.ledger.count];
+        if runs.is_empty() {
+            return self.ledger.highest + 1;
+        }
+        let shortest = runs.iter().min_by_key(|run| run.last - run.first).copied().unwrap_or_default();
+        let run = if random.one_in(3) { random.pick(runs) } else { shortest };
+        let splits = if self.ledger.count == MOST_RUNS { 4 } else { 40 };
+        match random.below(splits) {
+            0 => run.first + random.below(u64::from(run.last - run.first) + 1) as u32,
+            n if n % 2 == 0 => run.first,
+            _ => run.last,
+        }
+    }
+}
+
+/// Texts of series with so many arrivals in all, and of lent records, as `numbers` reads them.
+pub fn texts(seed: u64, arrivals: usize) -> Vec<String> {
+    let mut random = Random::new(!seed);
+    let mut texts = vec![String::new()];
+    let mut left = arrivals;
+    while left > 0 {
+        let length = match random.below(4) {
+            0 => random.within(0..=10),
+            1 => random.within(0..=3000),
+            _ => random.within(0..=600),
+        };
+        let mut piece = one_series(&mut random, length.min(left));
+        left -= length.min(left);
+        for _ in 0..random.below(4) {
+            piece += &lent(&mut random);
+        }
+        match texts.last_mut() {
+            Some(text) if text.len() + piece.len() <= TEXT => *text += &piece,
+            _ => texts.push(piece),
+        }
+    }
+    texts
+}
+
+/// A number a line, some of them outside the allowed ones, and an empty line.
+fn one_series(random: &mut Random, length: usize) -> String {
+    let mut series = Series::default();
+    let mut text = String::new();
+    for _ in 0..length {
+        let number = match random.below(100) {
+            0 => 0,
+            1 => 100_000_000 + random.amount(899_999_999) as u32,
+            2 if random.one_in(20) => random.pick(&[99_999_998, 99_999_999]),
+            _ => series.next(random),
+        };
+        series.came(number);
+        let _ = writeln!(text, "{number}");
+    }
+    text + "\n"
+}
+
+/// The ends of a record that may have a fault, on one line: falling numbers, and zeros behind them.
+fn lent(random: &mut Random) -> String {
+    let count = if random.one_in(4) { random.within(126..=129) } else { random.within(2..=12) };
+    let mut ends = Vec::new();
+    let mut end = random.below(3) as u32;
+    for _ in 0..count {
+        end += 1 + random.pick(&[0, 0, 0, 1, 4, 700_000]);
+        ends.push(end);
+    }
+    ends.reverse();
+    let place = random.within(0..=count - 1);
+    match random.below(10) {
+        0 => ends[place] = 0,
+        1 => ends[place] = ends[count - 1 - place],
+        2 => ends[place] += 1,
+        3 => ends[0] = random.pick(&[99_999_999, 100_000_000, 999_999_999]),
+        4 => ends[place..].fill(0),
+        5 => ends.swap(place, 0),
+        _ => {}
+    }
+    if random.one_in(3) {
+        ends.resize(random.within(count..=129), 0);
+    }
+    let ends: Vec<String> = ends.iter().map(u32::to_string).collect();
+    ends.join(" ") + "\n"
+}

@@ -1,0 +1,80 @@
+//! The driver, run on this package's own programs in the place of the proved ones: as they are, and with a fault.
+
+use std::fs;
+use std::os::unix::fs::PermissionsExt;
+use std::path::PathBuf;
+use std::process::Command;
+use std::sync::Mutex;
+
+/// One script at a time: one that is being written cannot be run.
+static TURN: Mutex<()> = Mutex::new(());
+
+/// A script like `trivsome`, which lists some programs and runs them, then `behind` on what they print.
+fn script(listed: &str, behind: &str) -> PathBuf {
+    let programs = [
+        ("listing", env!("CARGO_BIN_EXE_listing")),
+        ("messages", env!("CARGO_BIN_EXE_messages")),
+        ("gaps", env!("CARGO_BIN_EXE_gaps")),
+        ("numbers", env!("CARGO_BIN_EXE_numbers")),
+    ];
+    let mut text = format!("#!/bin/sh\ncase $1 in\n--help) echo 'Usage: this'; printf '  %s words\\n' {listed} ;;\n");
+    for (program, path) in programs {
+        text += &format!("{program}) '{path}' | {behind} ;;\n");
+    }
+    text += "*) exit 2 ;;\nesac\n";
+    let path = std::env::temp_dir().join(format!("second-{}", std::process::id()));
+    fs::write(&path, text).unwrap();
+    fs::set_permissions(&path, fs::Permissions::from_mode(0o755)).unwrap();
+    path
+}
+
+/// The exit status of the driver with such a script, and what it printed.
+fn compare(listed: &str, behind: &str, frames: &str) -> (Option<i32>, String) {
+    let _turn = TURN.lock();
+    let script = script(listed, behind);
+    let mut command = Command::new(env!("CARGO_BIN_EXE_compare"));
+    let output = command.args(["--seed", "2", "--frames", frames]).arg(&script).output().unwrap();
+    fs::remove_file(script).unwrap();
+    let text = String::from_utf8(output.stdout).unwrap();
+    if let Some((_, kept)) = text.trim_end().split_once("the input is kept as ") {
+        fs::remove_file(kept).unwrap();
+    }
+    (output.status.code(), text)
+}
+
+#[test]
+fn the_same() {
+    let (status, text) = compare("listing messages gaps numbers", "cat", "300");
+    assert_eq!(status, Some(0), "{text}");
+    for program in ["listing", "messages", "gaps", "numbers"] {
+        assert!(text.lines().any(|line| line.starts_with(&format!("{program}: ")) && line.ends_with(" all the same")));
+    }
+}
+
+#[test]
+fn only_what_is_listed() {
+    let (status, text) = compare("worked gaps", "cat", "30");
+    assert_eq!(status, Some(0), "{text}");
+    assert!(text.contains("listing: not there to be compared\n"));
+    assert_eq!(text.matches("all the same").count(), 1);
+    assert_eq!(compare("worked", "cat", "30").0, Some(1));
+}
+
+#[test]
+fn a_difference() {
+    for (program, behind, proved, second) in [
+        ("listing", "sed 's/^total,.*/total,1,2,3/'", "total,1,2,3", "total,"),
+        ("listing", "sed '$d'", "no such row", "total,"),
+        ("messages", "sed '1s/\"seq\":/\"seq\":1/'", "{\"at\":", "{\"at\":"),
+        ("gaps", "sed 's/^first,/first /'", "first last,count", "first,last,count"),
+        ("numbers", "sed 's/ new$/ repeat/'", " repeat", " new"),
+    ] {
+        let (status, text) = compare(program, behind, "300");
+        assert_eq!(status, Some(1), "{text}");
+        assert!(text.contains("differs\n"), "{text}");
+        let row = |name: &str| text.lines().find(|line| line.starts_with(name)).unwrap_or_default().to_string();
+        assert!(row("  proved: ").contains(proved), "{text}");
+        assert!(row("  second: ").contains(second), "{text}");
+        assert_eq!(text.contains("\nfrom "), program == "messages", "{text}");
+    }
+}

@@ -1,0 +1,56 @@
+//! The generator: the same lines from the same seed, whole frames that are accepted, and every answer.
+
+use second::generate::Generator;
+use second::random::Random;
+use second::read;
+use second::seen::Seen;
+use second::series::texts;
+
+#[test]
+fn a_known_series() {
+    // The first numbers of SplitMix64 from this seed, as published.
+    let mut random = Random::new(1_234_567);
+    assert_eq!([random.any(), random.any()], [6_457_827_717_110_365_317, 3_203_168_211_198_807_973]);
+}
+
+#[test]
+fn the_same_from_the_same_seed() {
+    let lines = |seed| {
+        let mut generator = Generator::new(seed);
+        [generator.line(50), generator.line(1)]
+    };
+    assert_eq!(lines(7), lines(7));
+    assert_ne!(lines(7)[0], lines(8)[0]);
+    assert_eq!(texts(7, 1000), texts(7, 1000));
+}
+
+#[test]
+fn whole_frames_are_accepted() {
+    let mut generator = Generator::new(3);
+    for _ in 0..5000 {
+        let frame = generator.whole();
+        let answer = read(&frame);
+        assert_eq!((answer.number(), answer.length()), (0, Some(frame.len())), "{frame:02X?}");
+    }
+}
+
+#[test]
+fn every_answer_occurs() {
+    let mut seen = Seen::default();
+    assert!(!seen.is_all());
+    let mut generator = Generator::new(5);
+    for frames in [10_000, 100, 10, 1] {
+        seen.line(&generator.line(frames)).unwrap();
+    }
+    assert!(seen.is_all(), "{seen}");
+    assert_eq!(seen.answers[0], seen.formats.iter().sum());
+    assert_eq!(seen.formats[1], seen.arrivals.iter().sum());
+}
+
+#[test]
+fn so_many_arrivals() {
+    let texts = texts(1, 20_000);
+    let arrivals = texts.iter().flat_map(|text| text.lines()).filter(|line| line.parse::<u32>().is_ok()).count();
+    assert_eq!(arrivals, 20_000);
+    assert!(texts.iter().all(|text| text.len() <= 65_536));
+}

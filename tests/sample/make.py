@@ -1,0 +1,55 @@
+#!/usr/bin/env python3
+"""Makes samples/capture, a few seconds of a line for the first look: a notice, quotes, a halt that is lifted, opening prices,
+noise between them, a quote whose check byte was damaged on the way, and numbers that never arrived.
+
+make.py           writes the file
+make.py --check   compares instead, and exits 1 on a difference
+"""
+
+import importlib.util
+import pathlib
+import sys
+
+ROOT = pathlib.Path(__file__).resolve().parents[2]
+SAMPLE = ROOT / "samples" / "capture"
+
+# the builders of frames that the noisy line is made with
+spec = importlib.util.spec_from_file_location("noisy", ROOT / "tests" / "listing" / "make.py")
+noisy = importlib.util.module_from_spec(spec)
+spec.loader.exec_module(noisy)
+frame, notice, quote, slot, table, halt = noisy.frame, noisy.notice, noisy.quote, noisy.slot, noisy.table, noisy.halt
+
+
+def book(last, trade, levels):
+    """The pairs of a quote around a price in ten-thousandths: the trade, if there is one, bids falling and asks rising."""
+    prices = ([last] if trade else []) + [last - 5000 * k for k in range(1, levels[0] + 1)] + [last + 5000 * k for k in range(levels[1])]
+    return noisy.packed("".join(f"{price:010}{(price // 100) % 97 + 1:08}" for price in prices))
+
+
+def the_line():
+    yield frame("05", notice("00", b"Trading opens at 09:00"), "00000001")
+    yield frame("12", table(slot(code=b"1101  ", opening="0000425000", highest="0000430000", lowest="0000420000", last="0000425000"), slot(code=b"2330  ", opening="0005980000", highest="0006010000", lowest="0005970000", last="0006000000", total="00012734")), "00000001")
+    yield frame("06", quote(0xDA, book(5980000, True, (5, 5)), code=b"2330  ", time="090000012345"), "00000001")
+    yield b"\x00\x1b\x00"
+    yield frame("06", quote(0xA2, book(425000, True, (2, 1)), code=b"1101  ", time="090000513002"), "00000002")
+    damaged = frame("06", quote(0x22, book(1045000, False, (2, 1)), code=b"2317  ", time="090001000000"), "00000003")
+    yield damaged[:20] + b"\x99" + damaged[21:]
+    yield frame("19", halt(code=b"2317  ", halted="090002", resumed="999999", state=b"I"), "00000001")
+    yield frame("06", quote(0x00, code=b"2330  ", time="090004271828"), "00000006")
+    yield frame("19", halt(code=b"2317  ", halted="090002", resumed="091500", state=b"I"), "00000002")
+    yield frame("06", quote(0x80, book(430000, True, (0, 0)), code=b"1101  ", time="090005314159"), "00000007")
+
+
+def main():
+    line = b"".join(the_line())
+    if "--check" in sys.argv[1:]:
+        if not SAMPLE.is_file() or SAMPLE.read_bytes() != line:
+            sys.exit(f"{SAMPLE} differs from what is made")
+    else:
+        SAMPLE.parent.mkdir(parents=True, exist_ok=True)
+        SAMPLE.write_bytes(line)
+    print(f"{len(line)} bytes")
+
+
+if __name__ == "__main__":
+    main()
