@@ -4,7 +4,7 @@ use crate::arrivals::with_row;
 use ledger::calls::clear;
 use libc::STDIN_FILENO;
 use lines::pieces::next_rows;
-use text::put;
+use text::moving::move_down;
 use walk::rows::Kept;
 use walk::rows::Next;
 use walk::rows::Row;
@@ -79,25 +79,6 @@ fn heard(piece: &[u8], s: Hearing, closed: bool) -> Piece {
     l
 }
 
-fn byte_at(buf: &[u8], at: usize) -> u8 {
-    if at < buf.len() {
-        return buf[at];
-    }
-    0
-}
-
-// The bytes from a place up to an end moved to the front of a buffer.
-fn moved_down(buf: &mut [u8], at: usize, end: usize) -> usize {
-    let mut to = 0;
-    let mut from = at;
-    while from < end {
-        let b = byte_at(buf, from);
-        to = put(buf, to, b);
-        from += 1;
-    }
-    to
-}
-
 // A line that is being read: what it has come to, how many bytes in hand wait for more, and whether more can come.
 struct Reading {
     hearing: Hearing,
@@ -122,7 +103,7 @@ fn with_piece(buf: &mut [u8], end: usize, s: Hearing) -> Reading {
         return failed(s);
     }
     let l = heard(&buf[..end], s, false);
-    let waiting = moved_down(buf, l.at, end);
+    let waiting = move_down(buf, l.at, end);
     let hearing = l.hearing;
     let is_open = hearing.failure == 0;
     Reading {

@@ -7,7 +7,7 @@ use crate::rows::put_header;
 use crate::rows::put_total;
 use libc::STDIN_FILENO;
 use lines::pieces::next_rows;
-use text::put;
+use text::moving::move_down;
 use walk::rows::Kept;
 use walk::rows::Next;
 use walk::tally::Tally;
@@ -92,25 +92,6 @@ fn listed(piece: &[u8], s: Listing, closed: bool, out: &mut [u8]) -> Piece {
     l
 }
 
-fn byte_at(buf: &[u8], at: usize) -> u8 {
-    if at < buf.len() {
-        return buf[at];
-    }
-    0
-}
-
-// The bytes from a place up to an end moved to the front of a buffer.
-fn moved_down(buf: &mut [u8], at: usize, end: usize) -> usize {
-    let mut to = 0;
-    let mut from = at;
-    while from < end {
-        let b = byte_at(buf, from);
-        to = put(buf, to, b);
-        from += 1;
-    }
-    to
-}
-
 // With the row of the skipped bytes at a line's end, if there are any.
 fn with_last_row(s: Listing, out: &mut [u8]) -> Listing {
     let kept = s.kept;
@@ -153,7 +134,7 @@ fn with_piece(buf: &mut [u8], end: usize, s: Listing, out: &mut [u8]) -> Reading
         return failed(s, READ);
     }
     let l = listed(&buf[..end], s, false, out);
-    let waiting = moved_down(buf, l.at, end);
+    let waiting = move_down(buf, l.at, end);
     let listing = l.listing;
     let is_open = listing.failure == 0;
     Reading {

@@ -5,7 +5,7 @@ use crate::output::with_row;
 use crate::output::written;
 use libc::STDIN_FILENO;
 use lines::pieces::next_rows;
-use text::put;
+use text::moving::move_down;
 use walk::rows::Kept;
 use walk::rows::Next;
 use walk::rows::Row;
@@ -82,25 +82,6 @@ fn told(piece: &[u8], s: Telling, closed: bool, out: &mut [u8]) -> Piece {
     l
 }
 
-fn byte_at(buf: &[u8], at: usize) -> u8 {
-    if at < buf.len() {
-        return buf[at];
-    }
-    0
-}
-
-// The bytes from a place up to an end moved to the front of a buffer.
-fn moved_down(buf: &mut [u8], at: usize, end: usize) -> usize {
-    let mut to = 0;
-    let mut from = at;
-    while from < end {
-        let b = byte_at(buf, from);
-        to = put(buf, to, b);
-        from += 1;
-    }
-    to
-}
-
 // A line that is being read: what it has come to, how many bytes in hand wait for more, and whether more can come.
 struct Reading {
     telling: Telling,
@@ -125,7 +106,7 @@ fn with_piece(buf: &mut [u8], end: usize, s: Telling, out: &mut [u8]) -> Reading
         return failed(s, READ);
     }
     let l = told(&buf[..end], s, false, out);
-    let waiting = moved_down(buf, l.at, end);
+    let waiting = move_down(buf, l.at, end);
     let telling = l.telling;
     let is_open = telling.failure == 0;
     Reading {

@@ -17,6 +17,9 @@ use Rattle.text.proofs.put_number.Reads as put-number-reads
 use Rattle.text.proofs.put_field as put-field
 use Rattle.text.proofs.put_field.Kinds as put-field-kinds
 use Rattle.text.proofs.put_field.Reads as put-field-reads
+use Rattle.text.proofs.moving.move_down as move-down
+use Rattle.text.proofs.moving.move_down.Kinds as move-down-kinds
+use Rattle.text.proofs.moving.move_down.Reads as move-down-reads
 
 -- the place that `put` answers, and the buffer afterwards
 pub determined-put : (κs : Lifetimes.Lfts 1) (a : World.ArgsD put.signature κs) (r₁ r₂ : World.ResD put.signature κs)
@@ -41,3 +44,9 @@ pub determined-put-field : (κs : Lifetimes.Lfts 1) (a : World.ArgsD put-field.s
     (s₁ s₂ : Clauses.AtExit (kinds.endedOf 1 put-field-kinds.ps put-field-kinds.r) κs) → put-field-reads.Post κs a r₁ s₁ → put-field-reads.Post κs a r₂ s₂
     → (r₁ ≡ r₂) × (now (s₁ .0) ≡ now (s₂ .0))
 determined-put-field κs a r₁ r₂ s₁ s₂ p q = (p .0 ∙ sym (q .0), p .1 ∙ sym (q .1))
+
+-- how many bytes `move_down` moved, and the buffer afterwards
+pub determined-move-down : (κs : Lifetimes.Lfts 1) (a : World.ArgsD move-down.signature κs) (r₁ r₂ : World.ResD move-down.signature κs)
+    (s₁ s₂ : Clauses.AtExit (kinds.endedOf 1 move-down-kinds.ps move-down-kinds.r) κs) → move-down-reads.Post κs a r₁ s₁ → move-down-reads.Post κs a r₂ s₂
+    → (r₁ ≡ r₂) × (now (s₁ .0) ≡ now (s₂ .0))
+determined-move-down κs a r₁ r₂ s₁ s₂ p q = (p .0 ∙ sym (q .0), p .1 ∙ sym (q .1))

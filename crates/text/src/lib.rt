@@ -1,4 +1,6 @@
 // Text put into a lent buffer. Each call answers the place behind what it put; what finds no room is left out.
+pub mod moving;
+
 ghost use mathlib.Core.Path.{_≡_};
 ghost use mathlib.Core.List.{[], _∷_};
 ghost use Prim.Native.Nat.{_≤_};

@@ -20,8 +20,8 @@ slice-aggregate-heard c = let a = c .before .before .before .args in sym (length
 heard-requires : tie.Need-heard-requires
 heard-requires c κs = search needs
 
-moved-down-requires : tie.Need-moved-down-requires
-moved-down-requires c κs = search needs
+move-down-requires : tie.Need-move-down-requires
+move-down-requires c κs = search needs
 
 same-length : tie.Need-same-length
 same-length c = search needs
@@ -38,6 +38,6 @@ with-piece-spec =
     slice-reshare-prefix-heard
     slice-aggregate-heard
     heard-requires
-    moved-down-requires
+    move-down-requires
     same-length
     returns-2)

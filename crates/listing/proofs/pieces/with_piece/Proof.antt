@@ -20,8 +20,8 @@ slice-aggregate-listed c = let a = c .before .before .before .before .args in sy
 listed-requires : tie.Need-listed-requires
 listed-requires c κs = search needs
 
-moved-down-requires : tie.Need-moved-down-requires
-moved-down-requires c κs = search needs
+move-down-requires : tie.Need-move-down-requires
+move-down-requires c κs = search needs
 
 same-length : tie.Need-same-length
 same-length c = search needs
@@ -41,7 +41,7 @@ with-piece-spec =
     slice-reshare-prefix-listed
     slice-aggregate-listed
     listed-requires
-    moved-down-requires
+    move-down-requires
     same-length
     same-length-2
     returns-2)
