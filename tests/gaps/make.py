@@ -14,7 +14,6 @@ import collections
 import importlib.util
 import itertools
 import pathlib
-import sys
 
 TESTS = pathlib.Path(__file__).resolve().parents[1]
 CRATE = TESTS.parent / "crates" / "gaps"
@@ -206,17 +205,7 @@ def main():
     assert len(missing_runs(numbers)) == MOST_RUNS
     assert len(line) > 65536
 
-    files = {CRATE / "stdin": line, CRATE / "stdout": report(numbers, answers)}
-    differs = False
-    for path, data in files.items():
-        if "--check" not in sys.argv[1:]:
-            path.parent.mkdir(parents=True, exist_ok=True)
-            path.write_bytes(data)
-        elif not path.is_file() or path.read_bytes() != data:
-            print(f"{path} differs from what the cases give")
-            differs = True
-    if differs:
-        sys.exit(1)
+    plain.keep(CRATE, line, report(numbers, answers))
     counts = ", ".join(f"{answer}: {answers[answer]}" for answer in ("new", "repeat", 21, 22))
     print(f"{len(line)} bytes, {len(missing_runs(numbers))} missing runs; arrivals by answer: {counts}")
 

@@ -790,6 +790,20 @@ def assert_edges():
     assert listing(rows(walk(b""))) == b"at,answer,bytes,format,seq\ntotal,0,0,0\n"
 
 
+def keep(crate, line, output):
+    """Writes a crate's stored input and output; with --check compares instead, and ends with status 1 on a difference."""
+    differs = False
+    for path, data in ((crate / "stdin", line), (crate / "stdout", output)):
+        if "--check" not in sys.argv[1:]:
+            path.parent.mkdir(parents=True, exist_ok=True)
+            path.write_bytes(data)
+        elif not path.is_file() or path.read_bytes() != data:
+            print(f"{path} differs from what the cases give")
+            differs = True
+    if differs:
+        sys.exit(1)
+
+
 def main():
     assert_edges()
     line, meant = the_line()
@@ -801,17 +815,7 @@ def main():
     occurred = collections.Counter(answer for _, answer, _, _ in moves)
     assert sorted(occurred) == list(range(14)), "every answer has to occur"
 
-    files = {CRATE / "stdin": line, CRATE / "stdout": listing(found)}
-    differs = False
-    for path, data in files.items():
-        if "--check" not in sys.argv[1:]:
-            path.parent.mkdir(parents=True, exist_ok=True)
-            path.write_bytes(data)
-        elif not path.is_file() or path.read_bytes() != data:
-            print(f"{path} differs from what the cases give")
-            differs = True
-    if differs:
-        sys.exit(1)
+    keep(CRATE, line, listing(found))
     counts = ", ".join(f"{answer}: {occurred[answer]}" for answer in sorted(occurred))
     print(f"{len(line)} bytes, {len(found)} rows; places by answer: {counts}")
 

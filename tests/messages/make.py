@@ -15,7 +15,6 @@ import importlib.util
 import itertools
 import json
 import pathlib
-import sys
 
 TESTS = pathlib.Path(__file__).resolve().parents[1]
 CRATE = TESTS.parent / "crates" / "messages"
@@ -268,17 +267,7 @@ def main():
     assert {answer for _, answer, _, _ in moves} == set(range(14)), "every answer has to occur"
     assert min(len(line), len(text)) > 65536
 
-    files = {CRATE / "stdin": line, CRATE / "stdout": text.encode("ascii")}
-    differs = False
-    for path, data in files.items():
-        if "--check" not in sys.argv[1:]:
-            path.parent.mkdir(parents=True, exist_ok=True)
-            path.write_bytes(data)
-        elif not path.is_file() or path.read_bytes() != data:
-            print(f"{path} differs from what the cases give")
-            differs = True
-    if differs:
-        sys.exit(1)
+    plain.keep(CRATE, line, text.encode("ascii"))
     print(f"{len(line)} bytes, {len(found)} objects; the longest takes {max(map(len, lines))} bytes, all of them {len(text)}")
 
 

@@ -2,14 +2,16 @@
 use Prim.Native.Nat.{ℕ, _+_, _-_, _≤_, _<_}
 use mathlib.Core.Path.{_≡_, refl, sym, ap, _∙_}
 use mathlib.Core.Bool.{Bool, true, false, cond, not, _&&_}
+use mathlib.Core.Logic.{_↔_}
 use native.Mathlib.Omega.{arith}
 use lib.Dec.{eqb, leb}
 use borrow.Author.Tests.{eq-eqb, ne-eqb, le-leb, lt-leb}
+use Rattle.digits.proofs.Bools.{no-false}
 use Rattle.frame.specs.Answers.{answerNumber}
 use Rattle.frame.specs.declared.answer.Answer.{Answer}
 use Rattle.walk.specs.Walk.{isWhole}
 use Rattle.walk.specs.Tally.{isSkipped, largest}
-use Rattle.walk.specs.Told.{noRow, joinedRow, framedRow, holds, toldOf}
+use Rattle.walk.specs.Told.{noRow, joinedRow, framedRow, holds, toldOf, toldNumber}
 use Rattle.walk.specs.declared.rows.Row.{Row}
 use Rattle.walk.specs.declared.rows.Kept.{Kept}
 use Rattle.walk.specs.declared.rows.Told.{Told}
@@ -54,3 +56,25 @@ module _ (k : Kept) (a : Answer) (n : ℕ) (h : n ≤ largest) where
           → Nothing (record { at = k .at + n; skipped = r }) ≡ toldOf k a n
       unfolding toldOf
       told-skip r e w = rw (held, w) (λ i. Nothing (record { at = k .at + n; skipped = e i }))
+
+-- 16 is given exactly where the place or the kept bytes cannot hold the move
+pub sixteen-exactly : (k : Kept) (a : Answer) (n : ℕ) → (toldNumber (toldOf k a n) ≡ 16) ↔ (holds k n ≡ false)
+unfolding toldOf
+sixteen-exactly k a n = go (holds k n) (isSkipped (answerNumber a)) (eqb (k .skipped .bytes) 0)
+  where
+    T : Bool → Bool → Bool → Told
+    T h s z =
+        cond h
+        (cond s (Nothing (record { at = k .at + n; skipped = joinedRow (k .skipped) (record { at = k .at; bytes = n; answer = a }) }))
+        (cond z (One (record { at = k .at; bytes = n; answer = a }) (record { at = k .at + n; skipped = noRow }))
+        (Two (k .skipped) (record { at = k .at; bytes = n; answer = a }) (record { at = k .at + n; skipped = noRow }))))
+        Full
+
+    none : _≡_ {A = ℕ} 0 16 → true ≡ false
+    none q = absurd (omega arith)
+
+    go : (h s z : Bool) → (toldNumber (T h s z) ≡ 16) ↔ (h ≡ false)
+    go true true z = (none, λ e. absurd (no-false (sym e)))
+    go true false true = (none, λ e. absurd (no-false (sym e)))
+    go true false false = (none, λ e. absurd (no-false (sym e)))
+    go false s z = (λ e. refl, λ e. refl)

@@ -64,3 +64,16 @@ onTold Full at more = NoMore
 abbrev pub nextOf : List (Move Answer) → Kept → ℕ → Next
 nextOf [] k at = Stopped k at
 nextOf (m ∷ ms) k at = onTold (toldOf k (m .said) (m .bytes)) (at + m .bytes) (nextOf ms)
+
+-- the paper's number of each case: 16 where the place would pass the largest number, 0 where nothing is refused
+abbrev pub toldNumber : Told → ℕ
+toldNumber (Nothing k) = 0
+toldNumber (One r k) = 0
+toldNumber (Two s r k) = 0
+toldNumber Full = 16
+
+abbrev pub nextNumber : Next → ℕ
+nextNumber (OneRow r k at) = 0
+nextNumber (TwoRows s r k at) = 0
+nextNumber (Stopped k at) = 0
+nextNumber NoMore = 16
