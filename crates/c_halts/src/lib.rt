@@ -1,0 +1,63 @@
+// Calls for C and Rust: halts read and written. A code, and an event as four numbers.
+ghost use mathlib.Core.Path.{_≡_};
+ghost use mathlib.Core.Bool.{_&&_};
+ghost use lib.ListN.{drop};
+ghost use Rattle.frame.specs.Codec.{legal, frameOf};
+ghost use Rattle.frame.specs.Writing.{writeAnswer, writtenOver};
+ghost use Rattle.frames.specs.Reading.{haltAt};
+ghost use Rattle.halts.specs.Halts.{nineteenCodec};
+ghost use Rattle.outcomes.specs.Outcomes.{readOutcome, writeOutcome};
+ghost use Rattle.outcomes.specs.Lent.{lent};
+ghost use Rattle.c_halts.specs.Halts.{haltNumbers, tellsHalt, haltFrom};
+
+mod numbers;
+
+use crate::numbers::halt_numbers;
+use crate::numbers::halt_of;
+use crate::numbers::tells_halt;
+use frame::answer::Written;
+use frames::reading::read_halt;
+use outcomes::is_of;
+use outcomes::of_answer;
+use outcomes::of_written;
+
+// The answer, and a halt's code, and its event, number, resume and state.
+#[no_mangle]
+pub extern "C" fn trivsome_read_halt_numbers(
+    line: &[u8],
+    at: usize,
+    code: &mut [u8; 6],
+    event: &mut [u32; 4],
+) -> u64
+    ensures { λ r. ⌜ r ≡ readOutcome (haltAt (drop at (now (line .entry))) .answer) ⌝ }
+    ensures { λ _. ⌜ now (code .exit) ≡ lent 19 (haltAt (drop at (now (line .entry))) .answer) (haltAt (drop at (now (line .entry))) .halt .code) (now (code .entry)) ⌝ }
+    ensures { λ _. ⌜ now (event .exit) ≡ lent 19 (haltAt (drop at (now (line .entry))) .answer) (haltNumbers (haltAt (drop at (now (line .entry))) .halt)) (now (event .entry)) ⌝ }
+{
+    let r = read_halt(line, at);
+    let answer = r.answer;
+    if !is_of(answer, 19) {
+        return of_answer(answer);
+    }
+    let halt = r.halt;
+    let bytes = halt.code;
+    *code = bytes;
+    *event = halt_numbers(halt);
+    of_answer(answer)
+}
+
+#[no_mangle]
+pub extern "C" fn trivsome_write_halt_numbers(
+    seq: u32,
+    code: &[u8; 6],
+    event: &[u32; 4],
+    buf: &mut [u8],
+) -> u64
+    ensures { λ r. ⌜ r ≡ writeOutcome (writeAnswer (tellsHalt (now (event .entry)) && legal nineteenCodec (haltFrom seq (now (code .entry)) (now (event .entry)))) (frameOf nineteenCodec (haltFrom seq (now (code .entry)) (now (event .entry)))) (now (buf .entry))) ⌝ }
+    ensures { λ _. ⌜ now (buf .exit) ≡ writtenOver (tellsHalt (now (event .entry)) && legal nineteenCodec (haltFrom seq (now (code .entry)) (now (event .entry)))) (frameOf nineteenCodec (haltFrom seq (now (code .entry)) (now (event .entry)))) (now (buf .entry)) ⌝ }
+{
+    if !tells_halt(event) {
+        return of_written(Written::Illegal);
+    }
+    let halt = halt_of(seq, code, event);
+    of_written(halts::write(halt, buf))
+}

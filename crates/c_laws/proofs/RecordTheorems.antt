@@ -1,0 +1,182 @@
+-- The numbers and bytes of a message tell it: nothing is lost on the way to a program in C or Rust and back.
+use Prim.Native.Nat.{ℕ, zero, suc, _+_, _-_, _*_, _≤_}
+use mathlib.Core.Path.{_≡_, refl, sym, ap, ap₂, _∙_}
+use mathlib.Core.Bool.{Bool, true, false, cond}
+use mathlib.Core.List.{List, [], _∷_, _++_}
+use native.Mathlib.Omega.{arith}
+use lib.ListN.{length, getD, take, drop, replicate, length-append, length-drop, length-replicate}
+use lib.Seq.{sets-eq, take-at, drop-at, length-take-le, getD-drop, drop-drop}
+use lib.Dec.{eqb}
+use borrow.Author.Tests.{le-leb}
+use Rattle.digits.specs.Amounts.{asPrice, asQuantity}
+use Rattle.digits.specs.declared.amounts.Pair.{Pair}
+use Rattle.digits.proofs.Bools.{and-right, no-false}
+use Rattle.frame.specs.Times.{nines, codeAt}
+use Rattle.frame.specs.Writing.{bytesOver}
+use Rattle.notices.specs.Notices.{room, tidyNotice, ShapedNotice}
+use Rattle.notices.specs.declared.Notice.{Notice}
+use Rattle.notices.proofs.NoticeLaws.{filled}
+use Rattle.quotes.specs.Quotes.{ShapedQuote}
+use Rattle.quotes.specs.declared.quote.Quote.{Quote}
+use Rattle.quotes.proofs.QuoteLaws.{of-six}
+use Rattle.halts.specs.Halts.{resumeOf, resumeNumber, sendingOf, sendingByte, sameResume, tidyEvent}
+use Rattle.halts.specs.declared.Resume.{Resume}
+use Rattle.halts.specs.declared.Resume.the-variants.{Open, At}
+use Rattle.halts.specs.declared.Event.{Event}
+use Rattle.halts.specs.declared.Event.the-variants.{RoundEnd, Halted}
+use Rattle.halts.specs.declared.Sending.{Sending}
+use Rattle.halts.specs.declared.Sending.the-variants.{Cycle, Instant}
+use Rattle.halts.specs.declared.Halt.{Halt}
+use Rattle.prices.specs.Prices.{slotCount, codesLong, ShapedPrices}
+use Rattle.prices.specs.declared.Slot.{Slot}
+use Rattle.prices.specs.declared.Prices.{Prices}
+use Rattle.outcomes.proofs.ListLaws.{bytes-in}
+use Rattle.c_notices.specs.Notices.{noticeFrom}
+use Rattle.c_quotes.specs.Quotes.{quoteBytes, quoteAmounts, quoteFrom}
+use Rattle.c_prices.specs.Slots.{slotCodes, slotAmounts, slotTimes, slotIn, slotsIn, pricesFrom}
+use Rattle.c_halts.specs.Halts.{eventNumbers, haltNumbers, tellsHalt, eventFrom, haltFrom}
+
+-- ---- quotes
+-- what holds of every list of five pairs holds of a list whose length is five
+of-five : (P : List Pair → Type 0) → ((a b c d e : Pair) → P (a ∷ b ∷ c ∷ d ∷ e ∷ [])) → (l : List Pair) → length l ≡ 5 → P l
+of-five P p (a ∷ b ∷ c ∷ d ∷ e ∷ []) h = p a b c d e
+of-five P p [] h = absurd (omega arith)
+of-five P p (a ∷ []) h = absurd (omega arith)
+of-five P p (a ∷ b ∷ []) h = absurd (omega arith)
+of-five P p (a ∷ b ∷ c ∷ []) h = absurd (omega arith)
+of-five P p (a ∷ b ∷ c ∷ d ∷ []) h = absurd (omega arith)
+of-five P p (a ∷ b ∷ c ∷ d ∷ e ∷ f ∷ l) h = absurd (omega arith)
+
+-- a quote's numbers and bytes are those of the quote alone
+pub quote-back : (q : Quote) → ShapedQuote q → quoteFrom (q .seq) (quoteBytes q) (q .time) (quoteAmounts q) ≡ q
+quote-back q s =
+    let with : List ℕ → List Pair → List Pair → Quote = λ code bids asks. record {
+      seq = q .seq;
+      code = code;
+      time = q .time;
+      reveal = q .reveal;
+      limit = q .limit;
+      status = q .status;
+      total = q .total;
+      trade = q .trade;
+      bids = bids;
+      asks = asks;
+    } in
+    let back : List ℕ → List Pair → List Pair → Quote = λ code bids asks. let w = with code bids asks in quoteFrom (q .seq) (quoteBytes w) (q .time) (quoteAmounts w) in
+    of-six (λ c. back c (q .bids) (q .asks) ≡ with c (q .bids) (q .asks))
+    (λ c1 c2 c3 c4 c5 c6. let c : List ℕ = c1 ∷ c2 ∷ c3 ∷ c4 ∷ c5 ∷ c6 ∷ [] in
+    of-five (λ b. back c b (q .asks) ≡ with c b (q .asks))
+    (λ b1 b2 b3 b4 b5. let b : List Pair = b1 ∷ b2 ∷ b3 ∷ b4 ∷ b5 ∷ [] in
+    of-five (λ a. back c b a ≡ with c b a) (λ a1 a2 a3 a4 a5. refl) (q .asks) (s .asks-long))
+    (q .bids) (s .bids-long))
+    (q .code) (s .code-long)
+
+-- ---- halts
+-- each part of a halt by its numbers
+resume-back : (r : Resume) → sameResume r ≡ true → resumeOf (resumeNumber r) ≡ r
+resume-back Open h = refl
+resume-back (At t) h = go (eqb t (nines 0)) h
+  where
+    go : (x : Bool) → cond x false true ≡ true → cond x Open (At t) ≡ At t
+    go true h = absurd (no-false h)
+    go false h = refl
+
+-- a resume at a time is not told as the open one
+abbrev pub resumeTold : Event → Bool
+resumeTold (RoundEnd n) = true
+resumeTold (Halted t r) = sameResume r
+
+event-back : (e : Event) (x : Sending) → resumeTold e ≡ true → eventFrom (eventNumbers e ++ (sendingByte x ∷ [])) ≡ e
+event-back (RoundEnd n) x h = refl
+event-back (Halted t r) x h = ap (Halted t) (resume-back r h)
+
+state-back : (e : Event) (x : Sending) → sendingOf (getD (eventNumbers e ++ (sendingByte x ∷ [])) 3 0) ≡ x
+state-back (RoundEnd n) Cycle = refl
+state-back (RoundEnd n) Instant = refl
+state-back (Halted t r) Cycle = refl
+state-back (Halted t r) Instant = refl
+
+event-tells : (e : Event) (x : Sending) → tellsHalt (eventNumbers e ++ (sendingByte x ∷ [])) ≡ true
+event-tells (RoundEnd n) Cycle = refl
+event-tells (RoundEnd n) Instant = refl
+event-tells (Halted t r) Cycle = refl
+event-tells (Halted t r) Instant = refl
+
+-- a halt's numbers tell a halt
+pub halt-tells : (h : Halt) → tellsHalt (haltNumbers h) ≡ true
+halt-tells h = event-tells (h .event) (h .state)
+
+-- and it is the same halt, unless it resumes at the time that stands for open
+pub halt-back : (h : Halt) → resumeTold (h .event) ≡ true → haltFrom (h .seq) (h .code) (haltNumbers h) ≡ h
+halt-back h r =
+    ap₂ (λ (e : Event) (x : Sending). record { seq = h .seq; code = h .code; event = e; state = x })
+    (event-back (h .event) (h .state) r) (state-back (h .event) (h .state))
+
+-- the condition holds of every tidy event
+pub tidy-resume : (code : List ℕ) (e : Event) → tidyEvent code e ≡ true → resumeTold e ≡ true
+tidy-resume code (RoundEnd n) h = refl
+tidy-resume code (Halted t r) h = and-right (cond (eqb t (nines 0)) false true) (sameResume r) h
+
+-- ---- notices
+-- a tidy notice's text and figures are those of the notice alone
+pub notice-back : (m : Notice) → ShapedNotice m → m .length ≤ room → tidyNotice m ≡ true → noticeFrom (m .seq) (m .category) (take (m .length) (m .text)) ≡ m
+notice-back m s h tidy =
+    let t = take (m .length) (m .text) in
+    let z : List ℕ = replicate room 0 in
+    let n : length t ≡ m .length = length-take-le (m .length) (m .text) (omega (arith, s .text-long)) in
+    let long : length z ≡ room = length-replicate {A = ℕ} room 0 in
+    let put : bytesOver t z 0 ≡ t ++ drop (0 + length t) z =
+    bytes-in z t 0 (omega (arith, long, n)) ∙ sets-eq t z 0 (omega (arith, long, n)) in
+    let rest : drop (0 + length t) z ≡ replicate (room - length t) 0 = zeros-left room (0 + length t) (room - length t) (omega arith) in
+    ap₂ (λ (k : ℕ) (x : List ℕ). record { seq = m .seq; category = m .category; length = k; text = x }) n
+    (put ∙ ap (λ (x : List ℕ). t ++ x) rest ∙ filled (m .length) room (m .text) (s .text-long) h tidy)
+  where
+    zeros-left : (n k r : ℕ) → n - k ≡ r → drop {A = ℕ} k (replicate n 0) ≡ replicate r 0
+    zeros-left n zero r e = let f : n ≡ r = omega arith in ap (λ (x : ℕ). replicate {A = ℕ} x 0) f
+    zeros-left zero (suc k) r e = let f : 0 ≡ r = omega arith in ap (λ (x : ℕ). replicate {A = ℕ} x 0) f
+    zeros-left (suc n) (suc k) r e = zeros-left n k r (omega arith)
+
+-- ---- prices
+-- the slots that lists tell from a place on are those whose codes, amounts and times stand there
+module _ (codes amounts times : List ℕ) where
+  slots-back : (ss : List Slot) (k i : ℕ) → codesLong ss → length ss ≡ k
+      → drop (6 * i) codes ≡ slotCodes ss → drop (5 * i) amounts ≡ slotAmounts ss → drop i times ≡ slotTimes ss
+      → slotsIn codes amounts times k i ≡ ss
+  slots-back [] zero i l h c a t = refl
+  slots-back [] (suc k) i l h c a t = absurd (omega arith)
+  slots-back (s ∷ ss) zero i l h c a t = absurd (omega arith)
+  slots-back (s ∷ ss) (suc k) i l h c a t =
+      let within : 6 * i + 6 ≤ length codes =
+      omega (arith, sym (length-drop (6 * i) codes) ∙ ap length c ∙ length-append (s .code) (slotCodes ss), l .0) in
+      let code : codeAt codes (6 * i) ≡ s .code =
+      ap (λ (x : Bool). cond x (take 6 (drop (6 * i) codes)) (replicate 6 0)) (le-leb (6 * i + 6) (length codes) within)
+      ∙ ap (take 6) c ∙ take-at (s .code) (slotCodes ss) 6 (l .0) in
+      let amount : (j : ℕ) → getD amounts (5 * i + j) 0 ≡ getD (slotAmounts (s ∷ ss)) j 0 =
+      λ j. sym (getD-drop (5 * i) amounts j 0) ∙ ap (λ (x : List ℕ). getD x j 0) a in
+      let opening : getD amounts (5 * i) 0 ≡ s .opening .0 = ap (λ (n : ℕ). getD amounts n 0) (let e : 5 * i ≡ 5 * i + 0 = omega arith in e) ∙ amount 0 in
+      let time : getD times i 0 ≡ s .time =
+      ap (λ (n : ℕ). getD times n 0) (let e : i ≡ i + 0 = omega arith in e) ∙ sym (getD-drop i times 0 0) ∙ ap (λ (x : List ℕ). getD x 0 0) t in
+      let first : slotIn codes amounts times i ≡ s = λ j. record {
+        code = code j;
+        opening = asPrice (opening j);
+        highest = asPrice (amount 1 j);
+        lowest = asPrice (amount 2 j);
+        last = asPrice (amount 3 j);
+        total = asQuantity (amount 4 j);
+        time = time j;
+      } in
+      let next-code : drop (6 * suc i) codes ≡ slotCodes ss =
+      ap (λ (n : ℕ). drop n codes) (let e : 6 * suc i ≡ 6 * i + 6 = omega arith in e) ∙ sym (drop-drop 6 (6 * i) codes) ∙ ap (drop 6) c ∙ drop-at (s .code) (slotCodes ss) 6 (l .0) in
+      let next-amount : drop (5 * suc i) amounts ≡ slotAmounts ss =
+      ap (λ (n : ℕ). drop n amounts) (let e : 5 * suc i ≡ 5 * i + 5 = omega arith in e) ∙ sym (drop-drop 5 (5 * i) amounts) ∙ ap (drop 5) a in
+      let next-time : drop (suc i) times ≡ slotTimes ss =
+      ap (λ (n : ℕ). drop n times) (let e : suc i ≡ i + 1 = omega arith in e) ∙ sym (drop-drop 1 i times) ∙ ap (drop 1) t in
+      ap₂ (λ (x : Slot) (r : List Slot). x ∷ r) first (slots-back ss k (suc i) (l .1) (omega arith) next-code next-amount next-time)
+
+-- the codes, amounts and times of prices are those of the prices alone
+pub prices-back : (m : Prices) → ShapedPrices m
+    → pricesFrom (m .seq) (m .count) (slotCodes (m .slots)) (slotAmounts (m .slots)) (slotTimes (m .slots)) ≡ m
+prices-back m s =
+    let ss = m .slots in
+    ap (λ (x : List Slot). record { seq = m .seq; count = m .count; slots = x })
+    (slots-back (slotCodes ss) (slotAmounts ss) (slotTimes ss) ss slotCount 0 (s .codes-long) (s .slots-long) refl refl refl)

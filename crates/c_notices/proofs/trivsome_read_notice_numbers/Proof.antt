@@ -1,0 +1,52 @@
+-- `trivsome_read_notice_numbers` meets its contract: a refusal or another format leaves what was lent.
+use mathlib.Core.Path.{_≡_, sym, ap, _∙_}
+use borrow.Author.Tests.{not-true, not-false}
+use lib.ListN.{drop}
+use Rattle.notices.specs.declared.NoticeReading.{NoticeReading}
+use Rattle.frames.specs.Reading.{noticeAt}
+use Rattle.outcomes.specs.Outcomes.{readOutcome}
+use Rattle.outcomes.specs.Lent.{isOf}
+use Rattle.outcomes.proofs.LentLaws.{lent-filled, lent-kept}
+use borrow.Author.Needs.{needs}
+use Rattle.c_notices.proofs.trivsome_read_notice_numbers.Statement.{statement}
+use Rattle.c_notices.proofs.trivsome_read_notice_numbers.Tie as tie
+
+read-notice-requires : tie.Need-read-notice-requires
+read-notice-requires c κs = search needs
+
+is-of-requires : tie.Need-is-of-requires
+is-of-requires c κs = search needs
+
+of-answer-requires : tie.Need-of-answer-requires
+of-answer-requires c κs = search needs
+
+returns : tie.Need-returns
+returns c =
+    let o = c .before .before .before .before .before .args in
+    let m = noticeAt (drop (o .at) (o .line .now)) in
+    let a = ap (λ (r : NoticeReading). r .answer) (c .before .before .before .read-notice .ensures) in
+    let other = sym (ap (isOf 5) a) ∙ sym (c .before .before .is-of .ensures) ∙ not-true _ (c .before .if1 .taken) in
+    (c .of-answer .ensures ∙ ap readOutcome a, (lent-kept 5 (m .answer) (m .notice .category) (o .category .now) other, lent-kept 5 (m .answer) (m .notice .text) (o .text .now) other))
+
+of-answer-requires-2 : tie.Need-of-answer-requires-2
+of-answer-requires-2 c κs = search needs
+
+returns-2 : tie.Need-returns-2
+returns-2 c =
+    let o = c .before .before .before .before .before .before .before .args in
+    let m = noticeAt (drop (o .at) (o .line .now)) in
+    let e = c .before .before .before .before .before .read-notice .ensures in
+    let a = ap (λ (r : NoticeReading). r .answer) e in
+    let is = sym (ap (isOf 5) a) ∙ sym (c .before .before .before .before .is-of .ensures) ∙ not-false _ (c .before .before .before .if1 .left) in
+    (c .of-answer2 .ensures ∙ ap readOutcome a, (lent-filled 5 (m .answer) (m .notice .category) (o .category .now) _ is (ap (λ (r : NoticeReading). r .notice .category) e), lent-filled 5 (m .answer) (m .notice .text) (o .text .now) _ is (ap (λ (r : NoticeReading). r .notice .text) e)))
+
+pub trivsome-read-notice-numbers-spec : {M : Type 1} → statement M
+trivsome-read-notice-numbers-spec =
+    tie.close
+    (tie.spec
+    read-notice-requires
+    is-of-requires
+    of-answer-requires
+    returns
+    of-answer-requires-2
+    returns-2)

@@ -1,0 +1,62 @@
+// Calls for C and Rust: notices read and written. A category and a text.
+ghost use mathlib.Core.Path.{_≡_};
+ghost use lib.ListN.{drop};
+ghost use Rattle.frame.specs.Codec.{legal, frameOf};
+ghost use Rattle.frame.specs.Writing.{writeAnswer, writtenOver};
+ghost use Rattle.frames.specs.Reading.{noticeAt};
+ghost use Rattle.notices.specs.Notices.{fiveCodec};
+ghost use Rattle.outcomes.specs.Outcomes.{readOutcome, writeOutcome};
+ghost use Rattle.outcomes.specs.Lent.{lent};
+ghost use Rattle.c_notices.specs.Notices.{noticeFrom};
+use frame::bytes::put_bytes;
+use frames::reading::read_notice;
+use notices::Notice;
+use outcomes::is_of;
+use outcomes::of_answer;
+use outcomes::of_written;
+
+// The answer, and a notice's category and text; the text's length is the frame's without 14.
+#[no_mangle]
+pub extern "C" fn trivsome_read_notice_numbers(
+    line: &[u8],
+    at: usize,
+    category: &mut u8,
+    text: &mut [u8; 60],
+) -> u64
+    ensures { λ r. ⌜ r ≡ readOutcome (noticeAt (drop at (now (line .entry))) .answer) ⌝ }
+    ensures { λ _. ⌜ now (category .exit) ≡ lent 5 (noticeAt (drop at (now (line .entry))) .answer) (noticeAt (drop at (now (line .entry))) .notice .category) (now (category .entry)) ⌝ }
+    ensures { λ _. ⌜ now (text .exit) ≡ lent 5 (noticeAt (drop at (now (line .entry))) .answer) (noticeAt (drop at (now (line .entry))) .notice .text) (now (text .entry)) ⌝ }
+{
+    let r = read_notice(line, at);
+    let answer = r.answer;
+    if !is_of(answer, 5) {
+        return of_answer(answer);
+    }
+    let notice = r.notice;
+    let bytes = notice.text;
+    *category = notice.category;
+    *text = bytes;
+    of_answer(answer)
+}
+
+#[no_mangle]
+pub extern "C" fn trivsome_write_notice_numbers(
+    seq: u32,
+    category: u8,
+    text: &[u8],
+    buf: &mut [u8],
+) -> u64
+    ensures { λ r. ⌜ r ≡ writeOutcome (writeAnswer (legal fiveCodec (noticeFrom seq category (now (text .entry)))) (frameOf fiveCodec (noticeFrom seq category (now (text .entry)))) (now (buf .entry))) ⌝ }
+    ensures { λ _. ⌜ now (buf .exit) ≡ writtenOver (legal fiveCodec (noticeFrom seq category (now (text .entry)))) (frameOf fiveCodec (noticeFrom seq category (now (text .entry)))) (now (buf .entry)) ⌝ }
+{
+    let length = text.len();
+    let mut room = [0; 60];
+    put_bytes(text, &mut room, 0);
+    let notice = Notice {
+        seq,
+        category,
+        length,
+        text: room,
+    };
+    of_written(notices::write(notice, buf))
+}

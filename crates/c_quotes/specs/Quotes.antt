@@ -1,0 +1,40 @@
+-- Quotes as numbers and bytes, and back.
+use Prim.Native.Nat.{ℕ, zero, suc, _+_}
+use mathlib.Core.List.{List, [], _∷_, _++_}
+use lib.ListN.{getD}
+use Rattle.digits.specs.Amounts.{asQuantity}
+use Rattle.digits.specs.declared.amounts.Pair.{Pair}
+use Rattle.frame.specs.Times.{codeAt}
+use Rattle.quotes.specs.Quotes.{pair, flat, sideRoom}
+use Rattle.quotes.specs.declared.quote.Quote.{Quote}
+
+-- a quote's code, reveal, limit and status bytes
+abbrev pub quoteBytes : Quote → List ℕ
+quoteBytes q = q .code ++ (q .reveal ∷ q .limit ∷ q .status ∷ [])
+
+-- a quote's total, then the price and the quantity of its trade, its five bids and its five asks
+abbrev pub quoteAmounts : Quote → List ℕ
+quoteAmounts q = q .total .0 ∷ flat (q .trade ∷ (q .bids ++ q .asks))
+
+-- the pair at a place of such amounts, and k pairs from a place on
+abbrev pub pairAt : List ℕ → ℕ → Pair
+pairAt amounts at = pair (getD amounts at 0) (getD amounts (at + 1) 0)
+
+abbrev pub pairsAt : List ℕ → ℕ → ℕ → List Pair
+pairsAt amounts zero at = []
+pairsAt amounts (suc k) at = pairAt amounts at ∷ pairsAt amounts k (at + 2)
+
+-- the quote of a number, such bytes, a time and such amounts
+abbrev pub quoteFrom : ℕ → List ℕ → ℕ → List ℕ → Quote
+quoteFrom seq bytes time amounts = record {
+  seq = seq;
+  code = codeAt bytes 0;
+  time = time;
+  reveal = getD bytes 6 0;
+  limit = getD bytes 7 0;
+  status = getD bytes 8 0;
+  total = asQuantity (getD amounts 0 0);
+  trade = pairAt amounts 1;
+  bids = pairsAt amounts sideRoom 3;
+  asks = pairsAt amounts sideRoom 13;
+}

@@ -1,0 +1,61 @@
+// Calls for C and Rust: quotes read and written. Nine bytes, a time and 23 amounts.
+ghost use mathlib.Core.Path.{_≡_};
+ghost use lib.ListN.{drop};
+ghost use Rattle.frame.specs.Codec.{legal, frameOf};
+ghost use Rattle.frame.specs.Writing.{writeAnswer, writtenOver};
+ghost use Rattle.frames.specs.Reading.{quoteAt};
+ghost use Rattle.quotes.specs.Quotes.{sixCodec};
+ghost use Rattle.outcomes.specs.Outcomes.{readOutcome, writeOutcome};
+ghost use Rattle.outcomes.specs.Lent.{lent};
+ghost use Rattle.c_quotes.specs.Quotes.{quoteBytes, quoteAmounts, quoteFrom};
+
+mod numbers;
+
+use crate::numbers::quote_amounts;
+use crate::numbers::quote_bytes;
+use crate::numbers::quote_of;
+use frames::reading::read_quote;
+use outcomes::is_of;
+use outcomes::of_answer;
+use outcomes::of_written;
+
+// The answer, and a quote's bytes, time and amounts.
+#[no_mangle]
+pub extern "C" fn trivsome_read_quote_numbers(
+    line: &[u8],
+    at: usize,
+    bytes: &mut [u8; 9],
+    time: &mut u64,
+    amounts: &mut [u32; 23],
+) -> u64
+    ensures { λ r. ⌜ r ≡ readOutcome (quoteAt (drop at (now (line .entry))) .answer) ⌝ }
+    ensures { λ _. ⌜ now (bytes .exit) ≡ lent 6 (quoteAt (drop at (now (line .entry))) .answer) (quoteBytes (quoteAt (drop at (now (line .entry))) .quote)) (now (bytes .entry)) ⌝ }
+    ensures { λ _. ⌜ now (time .exit) ≡ lent 6 (quoteAt (drop at (now (line .entry))) .answer) (quoteAt (drop at (now (line .entry))) .quote .time) (now (time .entry)) ⌝ }
+    ensures { λ _. ⌜ now (amounts .exit) ≡ lent 6 (quoteAt (drop at (now (line .entry))) .answer) (quoteAmounts (quoteAt (drop at (now (line .entry))) .quote)) (now (amounts .entry)) ⌝ }
+{
+    let r = read_quote(line, at);
+    let answer = r.answer;
+    if !is_of(answer, 6) {
+        return of_answer(answer);
+    }
+    let quote = r.quote;
+    *bytes = quote_bytes(quote);
+    *time = quote.time;
+    *amounts = quote_amounts(quote);
+    of_answer(answer)
+}
+
+#[no_mangle]
+pub extern "C" fn trivsome_write_quote_numbers(
+    seq: u32,
+    bytes: &[u8; 9],
+    time: u64,
+    amounts: &[u32; 23],
+    buf: &mut [u8],
+) -> u64
+    ensures { λ r. ⌜ r ≡ writeOutcome (writeAnswer (legal sixCodec (quoteFrom seq (now (bytes .entry)) time (now (amounts .entry)))) (frameOf sixCodec (quoteFrom seq (now (bytes .entry)) time (now (amounts .entry)))) (now (buf .entry))) ⌝ }
+    ensures { λ _. ⌜ now (buf .exit) ≡ writtenOver (legal sixCodec (quoteFrom seq (now (bytes .entry)) time (now (amounts .entry)))) (frameOf sixCodec (quoteFrom seq (now (bytes .entry)) time (now (amounts .entry)))) (now (buf .entry)) ⌝ }
+{
+    let quote = quote_of(seq, bytes, time, amounts);
+    of_written(quotes::writing::write(quote, buf))
+}

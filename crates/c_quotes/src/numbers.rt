@@ -1,0 +1,106 @@
+// Quotes as numbers and bytes, and back.
+ghost use Prim.Native.Nat.{_<_};
+ghost use mathlib.Core.Path.{_≡_};
+ghost use Rattle.c_quotes.specs.Quotes.{quoteBytes, quoteAmounts, pairAt, quoteFrom};
+use digits::amounts::Pair;
+use digits::amounts::Price;
+use digits::amounts::Quantity;
+use frame::rules::code_at;
+use quotes::quote::Quote;
+
+// A quote's code, reveal, limit and status bytes.
+pub(crate) fn quote_bytes(q: Quote) -> [u8; 9]
+    ensures { λ r. ⌜ r ≡ quoteBytes q ⌝ }
+{
+    let code = q.code;
+    [
+        code[0],
+        code[1],
+        code[2],
+        code[3],
+        code[4],
+        code[5],
+        q.reveal,
+        q.limit,
+        q.status,
+    ]
+}
+
+// A quote's total, trade, bids and asks.
+pub(crate) fn quote_amounts(q: Quote) -> [u32; 23]
+    ensures { λ r. ⌜ r ≡ quoteAmounts q ⌝ }
+{
+    let t = q.trade;
+    let b = q.bids;
+    let a = q.asks;
+    [
+        q.total.0,
+        t.price.0,
+        t.quantity.0,
+        b[0].price.0,
+        b[0].quantity.0,
+        b[1].price.0,
+        b[1].quantity.0,
+        b[2].price.0,
+        b[2].quantity.0,
+        b[3].price.0,
+        b[3].quantity.0,
+        b[4].price.0,
+        b[4].quantity.0,
+        a[0].price.0,
+        a[0].quantity.0,
+        a[1].price.0,
+        a[1].quantity.0,
+        a[2].price.0,
+        a[2].quantity.0,
+        a[3].price.0,
+        a[3].quantity.0,
+        a[4].price.0,
+        a[4].quantity.0,
+    ]
+}
+
+// The pair at a place of the amounts.
+fn pair_at(amounts: &[u32; 23], at: usize) -> Pair
+    requires { ⌜ at < 22 ⌝ }
+    ensures { λ r. ⌜ r ≡ pairAt (now (amounts .entry)) at ⌝ }
+{
+    Pair {
+        price: Price(amounts[at]),
+        quantity: Quantity(amounts[at + 1]),
+    }
+}
+
+// The quote of a number, such bytes, a time and such amounts.
+pub(crate) fn quote_of(seq: u32, bytes: &[u8; 9], time: u64, amounts: &[u32; 23]) -> Quote
+    ensures { λ r. ⌜ r ≡ quoteFrom seq (now (bytes .entry)) time (now (amounts .entry)) ⌝ }
+{
+    let code = code_at(bytes, 0);
+    let trade = pair_at(amounts, 1);
+    let bids = [
+        pair_at(amounts, 3),
+        pair_at(amounts, 5),
+        pair_at(amounts, 7),
+        pair_at(amounts, 9),
+        pair_at(amounts, 11),
+    ];
+    let asks = [
+        pair_at(amounts, 13),
+        pair_at(amounts, 15),
+        pair_at(amounts, 17),
+        pair_at(amounts, 19),
+        pair_at(amounts, 21),
+    ];
+    Quote {
+        seq,
+        code,
+        time,
+        reveal: bytes[6],
+        limit: bytes[7],
+        status: bytes[8],
+        total: Quantity(amounts[0]),
+        trade,
+        bids,
+        asks,
+    }
+}
