@@ -1,0 +1,371 @@
+/* trivsome.h: the calls of the library for programs in C and C++. ./trivsome library makes the archive to link.
+ *
+ * No call needs a check before it: every place, length, number and byte is allowed, and what is wrong is answered. No call
+ * keeps anything, allocates, blocks or prints; all are safe from several threads as long as they share no memory that one
+ * of them changes. A pointer must lead to as much memory as the call takes, and must not be null, not even for 0 bytes;
+ * memory that a call changes must not overlap its other memory. A call that refuses leaves all memory as it came.
+ *
+ * Every call answers with a number, 0 or the reason for a refusal, and carries figures above it, for which there are
+ * functions below:
+ *
+ *   reading and moving        0  accepted
+ *                             1  no frame begins here: the first byte is not 27
+ *                             2  the bytes end before the frame does
+ *                             3  the length has a bad digit, or is outside 14 to 1,024
+ *                             4  the frame does not end in 0D 0A
+ *                             5  the check byte is another
+ *                             6  a bad digit in bytes 4 to 10
+ *                             7  business not 01, or none of the four formats
+ *                             8  another version of the format
+ *                             9  a length that the format, or the reveal byte, does not allow
+ *                            10  a quote with 6 or 7 levels on a side
+ *                            11  a bad digit in the body
+ *                            12  a time that breaks its rule
+ *                            13  any other field that does
+ *   writing                   0  written
+ *                            14  the message breaks a rule, or what it leaves unused is not zero
+ *                            15  the buffer is too short
+ *   walking a tally           0  done
+ *                            16  a figure would pass the largest number
+ *   the ledger                0  done
+ *                            20  the record is damaged: no arrivals leave it so
+ *                            21  the number is 0 or above 99,999,999
+ *                            22  there would be more than 64 missing runs
+ *                            23  there is no run at this place
+ *
+ * docs/RULES.md has the rules. Prices are in ten-thousandths, quantities in the stock's trading units; times of day are
+ * numbers of the digits HHMMSSffffff or HHMMSS; codes are six characters, filled up with spaces, with no zero behind them.
+ */
+#ifndef TRIVSOME_H
+#define TRIVSOME_H
+
+#include <stdbool.h>
+#include <stddef.h>
+#include <stdint.h>
+#include <string.h>
+
+#ifdef __cplusplus
+extern "C" {
+#endif
+
+/* The formats of frames. */
+enum { TRIVSOME_NOTICE = 5, TRIVSOME_QUOTE = 6, TRIVSOME_PRICES = 12, TRIVSOME_HALT = 19 };
+
+/* The longest frame of the four formats, so the size of a buffer that every message finds room in. */
+#define TRIVSOME_LONGEST 374
+/* A time in place of a time of day: of a quote, the day's last frame; of a slot, the last price is the closing price. */
+#define TRIVSOME_NINES UINT64_C(999999999999)
+/* A halt's resume time while the halt is open. */
+#define TRIVSOME_OPEN UINT32_C(999999)
+
+/* ------------------------------------------------------------------------------------------------------------------------
+ * What a call answers.
+ */
+
+/* The answer's number, of every call but trivsome_clear. */
+static inline unsigned trivsome_answer(uint64_t outcome) { return (unsigned)(outcome & 255); }
+
+/* Of a reading or a move: the format of an accepted frame, else 0. */
+static inline unsigned trivsome_format(uint64_t outcome) { return (unsigned)(outcome >> 8 & 255); }
+
+/* Of a reading: the frame's length for 0 and 6 to 13, else 0. Of a writing: the bytes written. Of a move: the bytes that it
+ * goes past; 0 where the walk stops. */
+static inline size_t trivsome_length(uint64_t outcome) { return (size_t)(outcome >> 16 & 65535); }
+
+/* Of a reading or a move: the number of an accepted frame, else 0. */
+static inline uint32_t trivsome_seq(uint64_t outcome) { return (uint32_t)(outcome >> 32); }
+
+/* Of an arrival: the number is new. An answer of 0 that is not new is a repeat. */
+static inline bool trivsome_is_new(uint64_t outcome) { return outcome == 256; }
+
+/* Of trivsome_highest, _heard, _missing and _runs: the figure, where the answer is 0. */
+static inline uint32_t trivsome_figure(uint64_t outcome) { return (uint32_t)(outcome >> 8); }
+
+/* Of trivsome_run: the run's first and last number, where the answer is 0. */
+static inline uint32_t trivsome_first(uint64_t outcome) { return (uint32_t)(outcome >> 8 & 0xFFFFFFF); }
+static inline uint32_t trivsome_last(uint64_t outcome) { return (uint32_t)(outcome >> 36); }
+
+/* ------------------------------------------------------------------------------------------------------------------------
+ * Messages.
+ */
+
+typedef struct {
+    uint32_t seq;
+    uint8_t category; /* 0, 9, 90 or 99 */
+    uint8_t length;   /* of the text, 0 to 60 */
+    uint8_t text[60]; /* any bytes; zeros behind its length */
+} trivsome_notice;
+
+typedef struct {
+    uint32_t price;
+    uint32_t quantity;
+} trivsome_pair;
+
+typedef struct {
+    uint32_t seq;
+    uint8_t code[6];
+    uint8_t reveal; /* which pairs there are: see the three functions below */
+    uint8_t limit;
+    uint8_t status;
+    uint64_t time; /* HHMMSSffffff, or TRIVSOME_NINES with the code 000000: the day's last frame */
+    uint32_t total;
+    trivsome_pair trade; /* pairs that there are not are zeros */
+    trivsome_pair bids[5];
+    trivsome_pair asks[5]; /* the best of each side first */
+} trivsome_quote;
+
+static inline bool trivsome_has_trade(const trivsome_quote *quote) { return quote->reveal >> 7 != 0; }
+static inline unsigned trivsome_bids(const trivsome_quote *quote) { return quote->reveal >> 4 & 7U; }
+static inline unsigned trivsome_asks(const trivsome_quote *quote) { return quote->reveal >> 1 & 7U; }
+
+typedef struct {
+    uint8_t code[6];
+    uint32_t opening;
+    uint32_t highest;
+    uint32_t lowest;
+    uint32_t last;
+    uint32_t total;
+    uint64_t time; /* HHMMSSffffff, or TRIVSOME_NINES: last is the closing price */
+} trivsome_slot;
+
+typedef struct {
+    uint32_t seq;
+    uint8_t count; /* of the slots in use, 1 to 10 */
+    trivsome_slot slots[10]; /* behind the count: six spaces for the code, and zeros */
+} trivsome_prices;
+
+enum { TRIVSOME_ROUND_END = 0, TRIVSOME_HALTED = 1 };
+
+typedef struct {
+    uint32_t seq;
+    uint8_t code[6];  /* 000000 in a halt is the whole market; of a round's end, the records as six digits */
+    uint8_t event;    /* TRIVSOME_ROUND_END or TRIVSOME_HALTED */
+    uint8_t state;    /* 'C' sent in the cycle, 'I' sent at once */
+    uint32_t records; /* of a round's end, else 0 */
+    uint32_t halted;  /* of a halt: HHMMSS, else 0 */
+    uint32_t resume;  /* of a halt: HHMMSS, or TRIVSOME_OPEN while it is open, else 0 */
+} trivsome_halt;
+
+/* ------------------------------------------------------------------------------------------------------------------------
+ * The calls of the archive: bytes and numbers. The four readings and writings of messages have an easier form below.
+ */
+
+/* What the bytes of a line from a place on are: 0 to 13. A place at or behind the line's end answers 2. */
+uint64_t trivsome_read(const uint8_t *line, size_t length, size_t at);
+
+/* The same answer, and the message. An accepted frame of another format is answered 0 with that format, and leaves the memory
+ * for the message as it came. A notice's text has the frame's length less 14 bytes. The numbers of a quote: code, reveal, limit, status; total, trade, bids, asks, each pair as price and quantity. Of prices: for each slot the
+ * code; opening, highest, lowest, last, total; the time. Of a halt: event, records or halted, resume, state. */
+uint64_t trivsome_read_notice_numbers(const uint8_t *line, size_t length, size_t at, uint8_t *category, uint8_t text[60]);
+uint64_t trivsome_read_quote_numbers(const uint8_t *line, size_t length, size_t at, uint8_t bytes[9], uint64_t *time, uint32_t amounts[23]);
+uint64_t trivsome_read_prices_numbers(const uint8_t *line, size_t length, size_t at, uint8_t *count, uint8_t codes[60], uint32_t amounts[50], uint64_t times[10]);
+uint64_t trivsome_read_halt_numbers(const uint8_t *line, size_t length, size_t at, uint8_t code[6], uint32_t event[4]);
+
+/* Writes a message as a frame at the start of a buffer: 0, 14 or 15, and the bytes written. No byte behind them changes. */
+uint64_t trivsome_write_notice_numbers(uint32_t seq, uint8_t category, const uint8_t *text, size_t length, uint8_t *buf, size_t size);
+uint64_t trivsome_write_quote_numbers(uint32_t seq, const uint8_t bytes[9], uint64_t time, const uint32_t amounts[23], uint8_t *buf, size_t size);
+uint64_t trivsome_write_prices_numbers(uint32_t seq, uint8_t count, const uint8_t codes[60], const uint32_t amounts[50], const uint64_t times[10], uint8_t *buf, size_t size);
+uint64_t trivsome_write_halt_numbers(uint32_t seq, const uint8_t code[6], const uint32_t event[4], uint8_t *buf, size_t size);
+
+/* The move of a walk at a place of a line: the answer there, 0 to 13, and as its length the bytes to go past: a whole frame
+ * for 0 and 6 to 13, else one. It is 0, and the answer 2, where the walk stops: at the line's end, and on a line that is not
+ * closed where a frame may still be coming. Closed means that no more bytes will come. */
+uint64_t trivsome_move(const uint8_t *line, size_t length, size_t at, bool closed);
+
+/* Walks a whole line, and moves a tally on: accepted, refused and skipped bytes grow by the walk's, waiting bytes become the
+ * walk's. 0 or 16. See trivsome_walk_line below. */
+uint64_t trivsome_walk(uint64_t tally[4], const uint8_t *line, size_t length, bool closed);
+
+/* A ledger of the numbers that arrived today in one format. Lend its ends: trivsome_arrive(ledger.ends, 5). */
+typedef struct {
+    uint32_t ends[129];
+} trivsome_ledger;
+
+/* Makes any ledger a fresh one; nothing is heard. */
+void trivsome_clear(uint32_t ends[129]);
+
+/* Records a number: 0 (new, or a repeat: trivsome_is_new), 20, 21 or 22. */
+uint64_t trivsome_arrive(uint32_t ends[129], uint32_t n);
+
+/* The highest number heard, how many are heard, how many below the highest are missing, in how many runs: 0 or 20. */
+uint64_t trivsome_highest(const uint32_t ends[129]);
+uint64_t trivsome_heard(const uint32_t ends[129]);
+uint64_t trivsome_missing(const uint32_t ends[129]);
+uint64_t trivsome_runs(const uint32_t ends[129]);
+
+/* The missing run at a place, from 0 for the lowest: 0, 20 or 23. */
+uint64_t trivsome_run(const uint32_t ends[129], uint32_t place);
+
+/* ------------------------------------------------------------------------------------------------------------------------
+ * The same with structs. A reading changes the struct only if it accepts a frame of that format: test trivsome_format.
+ */
+
+/* Reads a notice: 0 to 13. */
+static inline uint64_t trivsome_read_notice(const uint8_t *line, size_t length, size_t at, trivsome_notice *notice)
+{
+    uint8_t category = 0, text[60] = {0};
+    uint64_t outcome = trivsome_read_notice_numbers(line, length, at, &category, text);
+    if (trivsome_format(outcome) == TRIVSOME_NOTICE) {
+        notice->seq = trivsome_seq(outcome);
+        notice->category = category;
+        notice->length = (uint8_t)(trivsome_length(outcome) - 14);
+        memcpy(notice->text, text, sizeof text);
+    }
+    return outcome;
+}
+
+/* Reads a quote: 0 to 13. */
+static inline uint64_t trivsome_read_quote(const uint8_t *line, size_t length, size_t at, trivsome_quote *quote)
+{
+    uint8_t bytes[9] = {0};
+    uint64_t time = 0;
+    uint32_t amounts[23] = {0};
+    uint64_t outcome = trivsome_read_quote_numbers(line, length, at, bytes, &time, amounts);
+    if (trivsome_format(outcome) == TRIVSOME_QUOTE) {
+        quote->seq = trivsome_seq(outcome);
+        memcpy(quote->code, bytes, 6);
+        quote->reveal = bytes[6];
+        quote->limit = bytes[7];
+        quote->status = bytes[8];
+        quote->time = time;
+        quote->total = amounts[0];
+        quote->trade.price = amounts[1];
+        quote->trade.quantity = amounts[2];
+        for (int i = 0; i < 5; i++) {
+            quote->bids[i].price = amounts[3 + 2 * i];
+            quote->bids[i].quantity = amounts[4 + 2 * i];
+            quote->asks[i].price = amounts[13 + 2 * i];
+            quote->asks[i].quantity = amounts[14 + 2 * i];
+        }
+    }
+    return outcome;
+}
+
+/* Reads opening or closing prices: 0 to 13. */
+static inline uint64_t trivsome_read_prices(const uint8_t *line, size_t length, size_t at, trivsome_prices *prices)
+{
+    uint8_t count = 0, codes[60] = {0};
+    uint32_t amounts[50] = {0};
+    uint64_t times[10] = {0};
+    uint64_t outcome = trivsome_read_prices_numbers(line, length, at, &count, codes, amounts, times);
+    if (trivsome_format(outcome) == TRIVSOME_PRICES) {
+        prices->seq = trivsome_seq(outcome);
+        prices->count = count;
+        for (int i = 0; i < 10; i++) {
+            trivsome_slot *slot = &prices->slots[i];
+            memcpy(slot->code, codes + 6 * i, 6);
+            slot->opening = amounts[5 * i];
+            slot->highest = amounts[5 * i + 1];
+            slot->lowest = amounts[5 * i + 2];
+            slot->last = amounts[5 * i + 3];
+            slot->total = amounts[5 * i + 4];
+            slot->time = times[i];
+        }
+    }
+    return outcome;
+}
+
+/* Reads a halt, or the end of a round of halts: 0 to 13. */
+static inline uint64_t trivsome_read_halt(const uint8_t *line, size_t length, size_t at, trivsome_halt *halt)
+{
+    uint8_t code[6] = {0};
+    uint32_t event[4] = {0};
+    uint64_t outcome = trivsome_read_halt_numbers(line, length, at, code, event);
+    if (trivsome_format(outcome) == TRIVSOME_HALT) {
+        halt->seq = trivsome_seq(outcome);
+        memcpy(halt->code, code, 6);
+        halt->event = (uint8_t)event[0];
+        halt->state = (uint8_t)event[3];
+        halt->records = event[0] == TRIVSOME_ROUND_END ? event[1] : 0;
+        halt->halted = event[0] == TRIVSOME_ROUND_END ? 0 : event[1];
+        halt->resume = event[2];
+    }
+    return outcome;
+}
+
+/* Writes a notice: 0, 14 or 15. */
+static inline uint64_t trivsome_write_notice(const trivsome_notice *notice, uint8_t *buf, size_t size)
+{
+    if (notice->length > 60)
+        return 14;
+    for (int i = notice->length; i < 60; i++)
+        if (notice->text[i] != 0)
+            return 14;
+    return trivsome_write_notice_numbers(notice->seq, notice->category, notice->text, notice->length, buf, size);
+}
+
+/* Writes a quote: 0, 14 or 15. */
+static inline uint64_t trivsome_write_quote(const trivsome_quote *quote, uint8_t *buf, size_t size)
+{
+    uint8_t bytes[9];
+    uint32_t amounts[23];
+    memcpy(bytes, quote->code, 6);
+    bytes[6] = quote->reveal;
+    bytes[7] = quote->limit;
+    bytes[8] = quote->status;
+    amounts[0] = quote->total;
+    amounts[1] = quote->trade.price;
+    amounts[2] = quote->trade.quantity;
+    for (int i = 0; i < 5; i++) {
+        amounts[3 + 2 * i] = quote->bids[i].price;
+        amounts[4 + 2 * i] = quote->bids[i].quantity;
+        amounts[13 + 2 * i] = quote->asks[i].price;
+        amounts[14 + 2 * i] = quote->asks[i].quantity;
+    }
+    return trivsome_write_quote_numbers(quote->seq, bytes, quote->time, amounts, buf, size);
+}
+
+/* Writes opening or closing prices: 0, 14 or 15. */
+static inline uint64_t trivsome_write_prices(const trivsome_prices *prices, uint8_t *buf, size_t size)
+{
+    uint8_t codes[60];
+    uint32_t amounts[50];
+    uint64_t times[10];
+    for (int i = 0; i < 10; i++) {
+        const trivsome_slot *slot = &prices->slots[i];
+        memcpy(codes + 6 * i, slot->code, 6);
+        amounts[5 * i] = slot->opening;
+        amounts[5 * i + 1] = slot->highest;
+        amounts[5 * i + 2] = slot->lowest;
+        amounts[5 * i + 3] = slot->last;
+        amounts[5 * i + 4] = slot->total;
+        times[i] = slot->time;
+    }
+    return trivsome_write_prices_numbers(prices->seq, prices->count, codes, amounts, times, buf, size);
+}
+
+/* Writes a halt, or the end of a round of halts: 0, 14 or 15. */
+static inline uint64_t trivsome_write_halt(const trivsome_halt *halt, uint8_t *buf, size_t size)
+{
+    bool round_end = halt->event == TRIVSOME_ROUND_END;
+    uint32_t event[4] = {halt->event, round_end ? halt->records : halt->halted, halt->resume, halt->state};
+    if ((round_end ? halt->halted : halt->records) != 0)
+        return 14;
+    return trivsome_write_halt_numbers(halt->seq, halt->code, event, buf, size);
+}
+
+/* Bytes of a line, or of all lines of a day, by what became of them. */
+typedef struct {
+    uint64_t accepted;
+    uint64_t refused;
+    uint64_t skipped;
+    uint64_t waiting;
+} trivsome_tally;
+
+/* Walks a whole line, and moves a tally on, as trivsome_walk does: 0 or 16. */
+static inline uint64_t trivsome_walk_line(trivsome_tally *tally, const uint8_t *line, size_t length, bool closed)
+{
+    uint64_t figures[4] = {tally->accepted, tally->refused, tally->skipped, tally->waiting};
+    uint64_t outcome = trivsome_walk(figures, line, length, closed);
+    tally->accepted = figures[0];
+    tally->refused = figures[1];
+    tally->skipped = figures[2];
+    tally->waiting = figures[3];
+    return outcome;
+}
+
+#ifdef __cplusplus
+}
+#endif
+
+#endif

@@ -1,0 +1,335 @@
+// Tries the calls of include/trivsome.h at their edges. What is expected is written by hand from docs/RULES.md. Prints each line
+// that does not hold, and ends with status 1 if there was one.
+#include <inttypes.h>
+#include <stdio.h>
+#include "trivsome.h"
+
+static int wrong;
+
+#define HOLDS(test) ((test) ? (void)0 : (void)(printf("calls.c:%d: does not hold: %s\n", __LINE__, #test), wrong = 1))
+
+// The outcome of a reading or a move, put together the other way round.
+static uint64_t outcome(unsigned answer, unsigned format, unsigned length, uint32_t seq)
+{
+    return (uint64_t)seq << 32 | (uint64_t)length << 16 | (uint64_t)format << 8 | answer;
+}
+
+static bool filled(const void *memory, size_t size)
+{
+    const uint8_t *bytes = memory;
+    for (size_t i = 0; i < size; i++)
+        if (bytes[i] != 0xA5) return false;
+    return true;
+}
+
+#define FILL(thing) memset(&(thing), 0xA5, sizeof(thing))
+#define FILLED(thing) filled(&(thing), sizeof(thing))
+
+// The paper's notice and halt, and the specification's fourth example of a quote with the check byte that the rule gives.
+static const uint8_t NOTICE[14] = {0x1B, 0x00, 0x14, 0x01, 0x05, 0x01, 0x00, 0x00, 0x00, 0x01, 0x09, 0x19, 0x0D, 0x0A};
+static const uint8_t HALT[26] = {0x1B, 0x00, 0x26, 0x01, 0x19, 0x01, 0x00, 0x00, 0x00, 0x01, 0x31, 0x32, 0x33, 0x34,
+                                 0x20, 0x20, 0x10, 0x05, 0x00, 0x99, 0x99, 0x99, 0x49, 0xFF, 0x0D, 0x0A};
+static const uint8_t QUOTE[41] = {0x1B, 0x00, 0x41, 0x01, 0x06, 0x04, 0x00, 0x00, 0x83, 0x25, 0x31, 0x33, 0x30, 0x31,
+                                  0x20, 0x20, 0x09, 0x45, 0x19, 0x03, 0x30, 0x17, 0x80, 0x81, 0x00, 0x00, 0x00, 0x15,
+                                  0x58, 0x00, 0x00, 0x33, 0x50, 0x00, 0x00, 0x00, 0x00, 0x00, 0xB9, 0x0D, 0x0A};
+
+// All five readings answer the same, and leave their structs as they were.
+static void refused(const uint8_t *line, size_t length, size_t at, uint64_t expected)
+{
+    trivsome_notice notice;
+    trivsome_quote quote;
+    trivsome_prices prices;
+    trivsome_halt halt;
+    FILL(notice), FILL(quote), FILL(prices), FILL(halt);
+    HOLDS(trivsome_read(line, length, at) == expected);
+    HOLDS(trivsome_read_notice(line, length, at, &notice) == expected && FILLED(notice));
+    HOLDS(trivsome_read_quote(line, length, at, &quote) == expected && FILLED(quote));
+    HOLDS(trivsome_read_prices(line, length, at, &prices) == expected && FILLED(prices));
+    HOLDS(trivsome_read_halt(line, length, at, &halt) == expected && FILLED(halt));
+}
+
+static void reading(void)
+{
+    uint8_t line[14] = {0};
+    refused(line, 0, 0, 2);
+    refused((const uint8_t *)"\x1B\x0A", 2, 0, 2);
+    refused((const uint8_t *)"\x1B\x0A\x14", 3, 0, 3);
+    refused((const uint8_t *)"\x41", 1, 0, 1);
+    refused(NOTICE, 13, 0, 2);
+    refused(NOTICE, 14, 1, 1);
+    refused(NOTICE, 14, 14, 2);
+    refused(NOTICE, 14, SIZE_MAX, 2);
+    memcpy(line, NOTICE, 14), line[11] = 0x18;
+    refused(line, 14, 0, 5);
+    memcpy(line, NOTICE, 14), line[13] = 0x0B;
+    refused(line, 14, 0, 4);
+    // category 01: a frame that is whole, and refused with its length
+    memcpy(line, NOTICE, 14), line[10] = 0x01, line[11] = 0x11;
+    refused(line, 14, 0, outcome(13, 0, 14, 0));
+    // a refusal leaves the memory of the calls below, too
+    uint8_t bytes[9];
+    uint64_t time;
+    uint32_t amounts[23];
+    FILL(bytes), FILL(time), FILL(amounts);
+    HOLDS(trivsome_read_quote_numbers(line, 14, 0, bytes, &time, amounts) == outcome(13, 0, 14, 0));
+    HOLDS(FILLED(bytes) && FILLED(time) && FILLED(amounts));
+
+    trivsome_notice n;
+    FILL(n);
+    uint64_t x = trivsome_read_notice(NOTICE, 14, 0, &n);
+    HOLDS(trivsome_answer(x) == 0 && trivsome_format(x) == 5 && trivsome_length(x) == 14 && trivsome_seq(x) == 1);
+    HOLDS(n.seq == 1 && n.category == 9 && n.length == 0 && n.text[0] == 0 && n.text[59] == 0);
+
+    trivsome_halt h;
+    HOLDS(trivsome_read_halt(HALT, 26, 0, &h) == outcome(0, 19, 26, 1));
+    HOLDS(h.seq == 1 && memcmp(h.code, "1234  ", 6) == 0 && h.event == TRIVSOME_HALTED && h.state == 'I');
+    HOLDS(h.records == 0 && h.halted == 100500 && h.resume == TRIVSOME_OPEN);
+
+    trivsome_quote q;
+    HOLDS(trivsome_read_quote(QUOTE, 41, 0, &q) == outcome(0, 6, 41, 8325));
+    HOLDS(q.seq == 8325 && memcmp(q.code, "1301  ", 6) == 0 && q.time == 94519033017 && q.total == 1558);
+    HOLDS(q.reveal == 0x80 && q.limit == 0x81 && q.status == 0 && q.trade.price == 335000 && q.trade.quantity == 0);
+    HOLDS(trivsome_has_trade(&q) && trivsome_bids(&q) == 0 && trivsome_asks(&q) == 0 && q.bids[0].price == 0 && q.asks[4].price == 0);
+
+    // a frame of another format: accepted with its own format, and the struct stays
+    FILL(n), FILL(h), FILL(q);
+    HOLDS(trivsome_read_quote(NOTICE, 14, 0, &q) == outcome(0, 5, 14, 1) && FILLED(q));
+    HOLDS(trivsome_read_halt(QUOTE, 41, 0, &h) == outcome(0, 6, 41, 8325) && FILLED(h));
+    HOLDS(trivsome_read_notice(HALT, 26, 0, &n) == outcome(0, 19, 26, 1) && FILLED(n));
+}
+
+static bool same_pair(trivsome_pair a, trivsome_pair b) { return a.price == b.price && a.quantity == b.quantity; }
+
+static void writing_notices(void)
+{
+    uint8_t buf[80];
+    trivsome_notice n = {1, 9, 0, {0}}, again;
+    FILL(buf);
+    HOLDS(trivsome_write_notice(&n, buf, sizeof buf) == outcome(0, 0, 14, 0));
+    HOLDS(memcmp(buf, NOTICE, 14) == 0 && filled(buf + 14, sizeof buf - 14));
+    FILL(buf);
+    HOLDS(trivsome_write_notice(&n, buf, 13) == 15 && FILLED(buf));
+    HOLDS(trivsome_write_notice(&n, buf, 0) == 15 && FILLED(buf));
+    n.category = 1;
+    HOLDS(trivsome_write_notice(&n, buf, sizeof buf) == 14 && FILLED(buf));
+    HOLDS(trivsome_write_notice(&n, buf, 0) == 14); // 14 before 15
+    n.category = 9, n.seq = 100000000;
+    HOLDS(trivsome_write_notice(&n, buf, sizeof buf) == 14 && FILLED(buf));
+    n.seq = 99999999, n.length = 61;
+    HOLDS(trivsome_write_notice(&n, buf, sizeof buf) == 14 && FILLED(buf));
+    n.length = 3, n.text[3] = 1;
+    HOLDS(trivsome_write_notice(&n, buf, sizeof buf) == 14 && FILLED(buf));
+    uint8_t long_text[61] = {0};
+    HOLDS(trivsome_write_notice_numbers(1, 9, long_text, 61, buf, sizeof buf) == 14 && FILLED(buf));
+
+    for (uint8_t i = 0; i < 60; i++) n.text[i] = 255 - i;
+    n.length = 60;
+    HOLDS(trivsome_write_notice(&n, buf, 74) == outcome(0, 0, 74, 0));
+    HOLDS(trivsome_read_notice(buf, 74, 0, &again) == outcome(0, 5, 74, 99999999));
+    HOLDS(again.seq == n.seq && again.category == n.category && again.length == 60 && memcmp(again.text, n.text, 60) == 0);
+}
+
+static void writing_quotes(void)
+{
+    uint8_t buf[140];
+    trivsome_quote q = {8325, {'1', '3', '0', '1', ' ', ' '}, 0x80, 0x81, 0, 94519033017, 1558, {335000, 0}, {{0, 0}}, {{0, 0}}}, again;
+    FILL(buf);
+    HOLDS(trivsome_write_quote(&q, buf, 41) == outcome(0, 0, 41, 0));
+    HOLDS(memcmp(buf, QUOTE, 41) == 0 && filled(buf + 41, sizeof buf - 41));
+    FILL(buf);
+    HOLDS(trivsome_write_quote(&q, buf, 40) == 15 && FILLED(buf));
+    q.asks[4].quantity = 1; // a pair that the reveal byte does not show
+    HOLDS(trivsome_write_quote(&q, buf, sizeof buf) == 14 && FILLED(buf));
+    q.asks[4].quantity = 0, q.reveal = 0x60;
+    HOLDS(trivsome_write_quote(&q, buf, sizeof buf) == 14 && FILLED(buf));
+    q.reveal = 0x80, q.trade.price = 1000000000;
+    HOLDS(trivsome_write_quote(&q, buf, sizeof buf) == 14 && FILLED(buf));
+
+    // all eleven pairs, each another
+    q.reveal = 0xDA, q.trade.price = 999999999, q.trade.quantity = 99999999;
+    for (uint32_t i = 0; i < 5; i++) {
+        q.bids[i].price = 1000 + i, q.bids[i].quantity = 2000 + i;
+        q.asks[i].price = 3000 + i, q.asks[i].quantity = 4000 + i;
+    }
+    HOLDS(trivsome_write_quote(&q, buf, sizeof buf) == outcome(0, 0, 131, 0));
+    HOLDS(filled(buf + 131, sizeof buf - 131));
+    // the second bid stands behind 29 bytes, the trade and the first bid; its price and quantity are 1001 and 2001
+    HOLDS(memcmp(buf + 29 + 18, "\x00\x00\x00\x10\x01\x00\x00\x20\x01", 9) == 0);
+    HOLDS(trivsome_read_quote(buf, 131, 0, &again) == outcome(0, 6, 131, 8325));
+    HOLDS(again.seq == q.seq && memcmp(again.code, q.code, 6) == 0 && again.time == q.time && again.total == q.total);
+    HOLDS(again.reveal == q.reveal && again.limit == q.limit && again.status == q.status && same_pair(again.trade, q.trade));
+    for (int i = 0; i < 5; i++) HOLDS(same_pair(again.bids[i], q.bids[i]) && same_pair(again.asks[i], q.asks[i]));
+}
+
+static void writing_prices(void)
+{
+    uint8_t buf[TRIVSOME_LONGEST];
+    trivsome_prices p = {7, 2, {{{0}, 0, 0, 0, 0, 0, 0}}}, again;
+    for (uint32_t i = 0; i < 10; i++) {
+        memcpy(p.slots[i].code, "      ", 6);
+        if (i >= p.count) continue;
+        p.slots[i].code[0] = (uint8_t)('1' + i);
+        p.slots[i].opening = 100 + i, p.slots[i].highest = 200 + i, p.slots[i].lowest = 300 + i;
+        p.slots[i].last = 400 + i, p.slots[i].total = 500 + i;
+        p.slots[i].time = i == 0 ? 91003554189 : TRIVSOME_NINES;
+    }
+    HOLDS(trivsome_write_prices(&p, buf, sizeof buf) == outcome(0, 0, 374, 0));
+    // the second slot: behind the header, the count and the first one
+    HOLDS(memcmp(buf + 11 + 36, "2     \x00\x00\x00\x01\x01\x00\x00\x00\x02\x01\x00\x00\x00\x03\x01\x00\x00\x00\x04\x01\x00\x00\x05\x01\x99\x99\x99\x99\x99\x99", 36) == 0);
+    HOLDS(trivsome_read_prices(buf, sizeof buf, 0, &again) == outcome(0, 12, 374, 7));
+    HOLDS(again.seq == 7 && again.count == 2);
+    for (int i = 0; i < 10; i++) {
+        trivsome_slot a = again.slots[i], b = p.slots[i];
+        HOLDS(memcmp(a.code, b.code, 6) == 0 && a.opening == b.opening && a.highest == b.highest && a.lowest == b.lowest);
+        HOLDS(a.last == b.last && a.total == b.total && a.time == b.time);
+    }
+    FILL(buf);
+    HOLDS(trivsome_write_prices(&p, buf, 373) == 15 && FILLED(buf));
+    p.count = 1; // the second slot is not counted, and not unused
+    HOLDS(trivsome_write_prices(&p, buf, sizeof buf) == 14 && FILLED(buf));
+    p.count = 11;
+    HOLDS(trivsome_write_prices(&p, buf, sizeof buf) == 14 && FILLED(buf));
+}
+
+static void writing_halts(void)
+{
+    uint8_t buf[40];
+    trivsome_halt h = {1, {'1', '2', '3', '4', ' ', ' '}, TRIVSOME_HALTED, 'I', 0, 100500, TRIVSOME_OPEN}, again;
+    FILL(buf);
+    HOLDS(trivsome_write_halt(&h, buf, 26) == outcome(0, 0, 26, 0));
+    HOLDS(memcmp(buf, HALT, 26) == 0 && filled(buf + 26, sizeof buf - 26));
+    FILL(buf);
+    HOLDS(trivsome_write_halt(&h, buf, 25) == 15 && FILLED(buf));
+    h.records = 1;
+    HOLDS(trivsome_write_halt(&h, buf, sizeof buf) == 14 && FILLED(buf));
+    h.records = 0, h.state = 'X';
+    HOLDS(trivsome_write_halt(&h, buf, sizeof buf) == 14 && FILLED(buf));
+    h.state = 'C', h.event = 2;
+    HOLDS(trivsome_write_halt(&h, buf, sizeof buf) == 14 && FILLED(buf));
+    h.event = TRIVSOME_HALTED, h.resume = 115700;
+    HOLDS(trivsome_write_halt(&h, buf, sizeof buf) == outcome(0, 0, 26, 0));
+    HOLDS(trivsome_read_halt(buf, 26, 0, &again) == outcome(0, 19, 26, 1));
+    HOLDS(again.seq == 1 && memcmp(again.code, h.code, 6) == 0 && again.event == TRIVSOME_HALTED && again.state == 'C');
+    HOLDS(again.records == 0 && again.halted == 100500 && again.resume == 115700);
+
+    // the end of a round of 42 records, whose code says the same
+    trivsome_halt end = {9, {'0', '0', '0', '0', '4', '2'}, TRIVSOME_ROUND_END, 'C', 42, 0, 0};
+    HOLDS(trivsome_write_halt(&end, buf, sizeof buf) == outcome(0, 0, 26, 0));
+    HOLDS(trivsome_read_halt(buf, 26, 0, &again) == outcome(0, 19, 26, 9));
+    HOLDS(again.seq == 9 && memcmp(again.code, "000042", 6) == 0 && again.event == TRIVSOME_ROUND_END && again.state == 'C');
+    HOLDS(again.records == 42 && again.halted == 0 && again.resume == 0);
+    FILL(buf);
+    end.records = 43;
+    HOLDS(trivsome_write_halt(&end, buf, sizeof buf) == 14 && FILLED(buf));
+    end.records = 42, end.halted = 1;
+    HOLDS(trivsome_write_halt(&end, buf, sizeof buf) == 14 && FILLED(buf));
+    end.halted = 0, end.resume = TRIVSOME_OPEN;
+    HOLDS(trivsome_write_halt(&end, buf, sizeof buf) == 14 && FILLED(buf));
+}
+
+static bool tally_is(trivsome_tally t, uint64_t accepted, uint64_t refused, uint64_t skipped, uint64_t waiting)
+{
+    return t.accepted == accepted && t.refused == refused && t.skipped == skipped && t.waiting == waiting;
+}
+
+static void walking(void)
+{
+    // the paper's line of 16 bytes, move by move, open and closed, and its tally
+    uint8_t line[16] = {0x41, 0x42};
+    memcpy(line + 2, NOTICE, 14);
+    HOLDS(trivsome_move(line, 16, 0, false) == outcome(1, 0, 1, 0));
+    HOLDS(trivsome_move(line, 16, 1, true) == outcome(1, 0, 1, 0));
+    HOLDS(trivsome_move(line, 16, 2, false) == outcome(0, 5, 14, 1));
+    HOLDS(trivsome_move(line, 16, 16, false) == outcome(2, 0, 0, 0));
+    HOLDS(trivsome_move(line, 16, 16, true) == outcome(2, 0, 0, 0));
+    HOLDS(trivsome_move(line, 15, 2, false) == outcome(2, 0, 0, 0));
+    HOLDS(trivsome_move(line, 15, 2, true) == outcome(2, 0, 1, 0));
+    trivsome_tally t = {0, 0, 0, 0};
+    HOLDS(trivsome_walk_line(&t, line, 16, true) == 0 && tally_is(t, 14, 0, 2, 0));
+    HOLDS(trivsome_walk_line(&t, line, 15, false) == 0 && tally_is(t, 14, 0, 4, 13));
+    HOLDS(trivsome_walk_line(&t, line, 15, true) == 0 && tally_is(t, 14, 0, 19, 0));
+    line[12] = 0x01, line[13] = 0x11; // category 01
+    HOLDS(trivsome_move(line, 16, 2, false) == outcome(13, 0, 14, 0));
+    HOLDS(trivsome_walk_line(&t, line, 16, false) == 0 && tally_is(t, 14, 14, 21, 0));
+
+    // 16 exactly where one of the first three and the length would pass the largest number, and the tally stays
+    t = (trivsome_tally){UINT64_MAX - 16, 1, 2, UINT64_MAX};
+    HOLDS(trivsome_walk_line(&t, line, 16, true) == 0 && tally_is(t, UINT64_MAX - 16, 15, 4, 0));
+    t = (trivsome_tally){UINT64_MAX - 15, 1, 2, 3};
+    HOLDS(trivsome_walk_line(&t, line, 16, true) == 16 && tally_is(t, UINT64_MAX - 15, 1, 2, 3));
+    t = (trivsome_tally){0, UINT64_MAX - 15, 2, 3};
+    HOLDS(trivsome_walk_line(&t, line, 16, true) == 16 && tally_is(t, 0, UINT64_MAX - 15, 2, 3));
+    t = (trivsome_tally){0, 1, UINT64_MAX - 15, 3};
+    HOLDS(trivsome_walk_line(&t, line, 16, true) == 16 && tally_is(t, 0, 1, UINT64_MAX - 15, 3));
+    t = (trivsome_tally){UINT64_MAX, UINT64_MAX, UINT64_MAX, 3};
+    HOLDS(trivsome_walk_line(&t, line, 0, true) == 0 && tally_is(t, UINT64_MAX, UINT64_MAX, UINT64_MAX, 0));
+}
+
+static bool figures_are(const trivsome_ledger *l, uint32_t highest, uint32_t heard, uint32_t missing, uint32_t runs)
+{
+    uint64_t h = trivsome_highest(l->ends), n = trivsome_heard(l->ends), m = trivsome_missing(l->ends), r = trivsome_runs(l->ends);
+    return trivsome_answer(h) == 0 && trivsome_answer(n) == 0 && trivsome_answer(m) == 0 && trivsome_answer(r) == 0 &&
+           trivsome_figure(h) == highest && trivsome_figure(n) == heard && trivsome_figure(m) == missing && trivsome_figure(r) == runs;
+}
+
+static bool run_is(const trivsome_ledger *l, uint32_t place, uint32_t first, uint32_t last)
+{
+    uint64_t x = trivsome_run(l->ends, place);
+    return trivsome_answer(x) == 0 && trivsome_first(x) == first && trivsome_last(x) == last;
+}
+
+static void damaged(const trivsome_ledger *l)
+{
+    trivsome_ledger copy = *l;
+    HOLDS(trivsome_arrive(copy.ends, 3) == 20 && trivsome_arrive(copy.ends, 0) == 20); // 20 before 21
+    HOLDS(memcmp(&copy, l, sizeof copy) == 0);
+    HOLDS(trivsome_highest(l->ends) == 20 && trivsome_heard(l->ends) == 20 && trivsome_missing(l->ends) == 20);
+    HOLDS(trivsome_runs(l->ends) == 20 && trivsome_run(l->ends, 0) == 20 && trivsome_run(l->ends, 64) == 20);
+}
+
+static void ledger(void)
+{
+    trivsome_ledger l;
+    FILL(l);
+    damaged(&l);
+    trivsome_clear(l.ends);
+    HOLDS(figures_are(&l, 0, 0, 0, 0) && trivsome_run(l.ends, 0) == 23);
+    HOLDS(trivsome_arrive(l.ends, 0) == 21 && trivsome_arrive(l.ends, 100000000) == 21 && figures_are(&l, 0, 0, 0, 0));
+
+    HOLDS(trivsome_is_new(trivsome_arrive(l.ends, 5)) && trivsome_is_new(trivsome_arrive(l.ends, 2)));
+    uint64_t repeat = trivsome_arrive(l.ends, 5);
+    HOLDS(trivsome_answer(repeat) == 0 && !trivsome_is_new(repeat));
+    HOLDS(figures_are(&l, 5, 2, 3, 2) && run_is(&l, 0, 1, 1) && run_is(&l, 1, 3, 4));
+    HOLDS(trivsome_run(l.ends, 2) == 23 && trivsome_run(l.ends, UINT32_MAX) == 23);
+
+    trivsome_clear(l.ends);
+    for (uint32_t n = 2; n <= 128; n += 2) HOLDS(trivsome_is_new(trivsome_arrive(l.ends, n)));
+    HOLDS(figures_are(&l, 128, 64, 64, 64));
+    trivsome_ledger full = l;
+    HOLDS(trivsome_arrive(l.ends, 130) == 22 && memcmp(&full, &l, sizeof l) == 0);
+    HOLDS(trivsome_is_new(trivsome_arrive(l.ends, 129)) && trivsome_is_new(trivsome_arrive(l.ends, 1)));
+    HOLDS(trivsome_is_new(trivsome_arrive(l.ends, 131)));
+    HOLDS(figures_are(&l, 131, 67, 64, 64) && run_is(&l, 0, 3, 3) && run_is(&l, 63, 130, 130) && trivsome_run(l.ends, 64) == 23);
+
+    // the longest run that there can be
+    trivsome_clear(l.ends);
+    HOLDS(trivsome_is_new(trivsome_arrive(l.ends, 99999999)));
+    HOLDS(figures_are(&l, 99999999, 1, 99999998, 1) && run_is(&l, 0, 1, 99999998));
+
+    // records that no arrivals leave: a highest number that is none, a run up to the highest, a place behind the unused ones
+    l = (trivsome_ledger){{100000000}}, damaged(&l);
+    l = (trivsome_ledger){{5, 5}}, damaged(&l);
+    l = (trivsome_ledger){{5, 0, 1}}, damaged(&l);
+}
+
+int main(void)
+{
+    reading();
+    writing_notices();
+    writing_quotes();
+    writing_prices();
+    writing_halts();
+    walking();
+    ledger();
+    return wrong;
+}
