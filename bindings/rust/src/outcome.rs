@@ -1,0 +1,179 @@
+//! What a reading and a writing answer.
+
+use std::fmt;
+
+use crate::raw;
+
+/// A reading's answer as the library gives it: the paper's number, format, length and sequence number in one number.
+#[derive(Clone, Copy, PartialEq, Eq, Hash)]
+#[repr(transparent)]
+pub struct Outcome(u64);
+
+/// An accepted frame: its format (5, 6, 12 or 19), its number and its whole length in bytes.
+#[derive(Clone, Copy, Debug, PartialEq, Eq, Hash)]
+pub struct Frame {
+    pub format: u8,
+    pub seq: u32,
+    pub length: usize,
+}
+
+/// The same as one of three cases.
+#[derive(Clone, Copy, Debug, PartialEq, Eq, Hash)]
+pub enum Answer {
+    /// 0.
+    Accepted(Frame),
+    /// 1 to 5, the number alone: no whole frame stands here.
+    NoFrame(u8),
+    /// 6 to 13, with the length: a whole frame that breaks a rule.
+    Refused(u8, usize),
+}
+
+/// Why a message was not written. The buffer is as it came.
+#[derive(Clone, Copy, Debug, PartialEq, Eq, Hash)]
+pub enum NotWritten {
+    /// 14: the message breaks a field's rule or range.
+    Message,
+    /// 15: the buffer is shorter than the frame.
+    Buffer,
+}
+
+/// Reads the frame at a place of a line: the answer alone.
+#[inline]
+pub fn read(line: &[u8], at: usize) -> Outcome {
+    Outcome::of(raw::read(line, at))
+}
+
+impl Outcome {
+    #[inline]
+    pub(crate) fn of(outcome: u64) -> Outcome {
+        Outcome(outcome)
+    }
+
+    /// The paper's number, 0 to 13.
+    #[inline]
+    pub fn number(self) -> u8 {
+        self.0 as u8
+    }
+
+    /// The format of an accepted frame, else 0.
+    #[inline]
+    pub fn format(self) -> u8 {
+        (self.0 >> 8) as u8
+    }
+
+    /// The whole frame's length for 0 and 6 to 13, else 0.
+    #[inline]
+    pub fn length(self) -> usize {
+        usize::from((self.0 >> 16) as u16)
+    }
+
+    /// The number of an accepted frame, else 0.
+    #[inline]
+    pub fn seq(self) -> u32 {
+        (self.0 >> 32) as u32
+    }
+
+    /// Whether a frame of this format is accepted.
+    #[inline]
+    pub fn accepts(self, format: u8) -> bool {
+        self.0 as u16 == u16::from(format) << 8
+    }
+
+    #[inline]
+    pub fn answer(self) -> Answer {
+        match self.number() {
+            0 => Answer::Accepted(self.frame()),
+            number @ 1..=5 => Answer::NoFrame(number),
+            number => Answer::Refused(number, self.length()),
+        }
+    }
+
+    #[inline]
+    pub(crate) fn frame(self) -> Frame {
+        Frame { format: self.format(), seq: self.seq(), length: self.length() }
+    }
+}
+
+impl fmt::Debug for Outcome {
+    fn fmt(&self, f: &mut fmt::Formatter) -> fmt::Result {
+        self.answer().fmt(f)
+    }
+}
+
+impl Answer {
+    /// The paper's number.
+    #[inline]
+    pub fn number(self) -> u8 {
+        match self {
+            Answer::Accepted(_) => 0,
+            Answer::NoFrame(number) | Answer::Refused(number, _) => number,
+        }
+    }
+
+    /// The length of the whole frame that it speaks of, 0 where it speaks of none.
+    #[inline]
+    pub fn length(self) -> usize {
+        match self {
+            Answer::Accepted(frame) => frame.length,
+            Answer::NoFrame(_) => 0,
+            Answer::Refused(_, length) => length,
+        }
+    }
+}
+
+impl fmt::Display for Answer {
+    fn fmt(&self, f: &mut fmt::Formatter) -> fmt::Result {
+        let why = match self.number() {
+            0 => "accepted",
+            1 => "the first byte is not 27",
+            2 => "there are too few bytes",
+            3 => "a length with a bad digit or outside 14 to 1,024",
+            4 => "the last two bytes are not 0D 0A",
+            5 => "another check byte",
+            6 => "a bad digit in the header",
+            7 => "another business or format",
+            8 => "another version",
+            9 => "a length that the format does not have",
+            10 => "a level count of 6 or 7",
+            11 => "a bad digit in the body",
+            12 => "a time that breaks its rule",
+            _ => "a field that breaks its rule",
+        };
+        write!(f, "{}: {why}", self.number())
+    }
+}
+
+impl std::error::Error for Answer {}
+
+impl NotWritten {
+    /// The paper's number.
+    #[inline]
+    pub fn number(self) -> u8 {
+        match self {
+            NotWritten::Message => 14,
+            NotWritten::Buffer => 15,
+        }
+    }
+}
+
+impl fmt::Display for NotWritten {
+    fn fmt(&self, f: &mut fmt::Formatter) -> fmt::Result {
+        f.write_str(match self {
+            NotWritten::Message => "14: the message breaks a rule",
+            NotWritten::Buffer => "15: the buffer is too short",
+        })
+    }
+}
+
+impl std::error::Error for NotWritten {}
+
+/// The length of the frame that was written.
+#[inline]
+pub(crate) fn written(outcome: u64) -> Result<usize, NotWritten> {
+    let outcome = Outcome(outcome);
+    match outcome.number() {
+        0 => Ok(outcome.length()),
+        14 => Err(NotWritten::Message),
+        _ => Err(NotWritten::Buffer),
+    }
+}

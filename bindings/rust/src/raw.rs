@@ -1,0 +1,240 @@
+//! The calls of the proved library as they are, lent Rust's own references. All unsafe code of the package is here.
+//!
+//! An outcome is one number: the answer in bits 0 to 7, and above it what the call tells beside it. Of a reading and a move
+//! these are the format (8 to 15), the length or the bytes gone past (16 to 31) and the sequence number (32 to 63); of a
+//! writing the length; of a figure the figure; of a run its first number (8 to 35) and its last (36 to 63); of an arrival how
+//! many numbers more are heard. A refused call leaves what it was lent as it came.
+#![allow(unsafe_code)]
+
+use std::mem::{offset_of, size_of};
+
+use crate::prices::Prices;
+use crate::quote::Quote;
+
+/// A slice is a pointer and a length, anything else lent is a pointer.
+mod calls {
+    extern "C" {
+        pub fn trivsome_read(line: *const u8, length: usize, at: usize) -> u64;
+        pub fn trivsome_read_notice_numbers(
+            line: *const u8,
+            length: usize,
+            at: usize,
+            category: *mut u8,
+            text: *mut [u8; 60],
+        ) -> u64;
+        pub fn trivsome_read_quote_numbers(
+            line: *const u8,
+            length: usize,
+            at: usize,
+            bytes: *mut [u8; 9],
+            time: *mut u64,
+            amounts: *mut [u32; 23],
+        ) -> u64;
+        pub fn trivsome_read_prices_numbers(
+            line: *const u8,
+            length: usize,
+            at: usize,
+            count: *mut u8,
+            codes: *mut [u8; 60],
+            amounts: *mut [u32; 50],
+            times: *mut [u64; 10],
+        ) -> u64;
+        pub fn trivsome_read_halt_numbers(
+            line: *const u8,
+            length: usize,
+            at: usize,
+            code: *mut [u8; 6],
+            event: *mut [u32; 4],
+        ) -> u64;
+        pub fn trivsome_write_notice_numbers(
+            seq: u32,
+            category: u8,
+            text: *const u8,
+            text_length: usize,
+            buffer: *mut u8,
+            room: usize,
+        ) -> u64;
+        pub fn trivsome_write_quote_numbers(
+            seq: u32,
+            bytes: *const [u8; 9],
+            time: u64,
+            amounts: *const [u32; 23],
+            buffer: *mut u8,
+            room: usize,
+        ) -> u64;
+        pub fn trivsome_write_prices_numbers(
+            seq: u32,
+            count: u8,
+            codes: *const [u8; 60],
+            amounts: *const [u32; 50],
+            times: *const [u64; 10],
+            buffer: *mut u8,
+            room: usize,
+        ) -> u64;
+        pub fn trivsome_write_halt_numbers(
+            seq: u32,
+            code: *const [u8; 6],
+            event: *const [u32; 4],
+            buffer: *mut u8,
+            room: usize,
+        ) -> u64;
+        pub fn trivsome_move(line: *const u8, length: usize, at: usize, closed: bool) -> u64;
+        pub fn trivsome_walk(tally: *mut [u64; 4], line: *const u8, length: usize, closed: bool) -> u64;
+        pub fn trivsome_clear(ends: *mut [u32; 129]);
+        pub fn trivsome_arrive(ends: *mut [u32; 129], n: u32) -> u64;
+        pub fn trivsome_highest(ends: *const [u32; 129]) -> u64;
+        pub fn trivsome_heard(ends: *const [u32; 129]) -> u64;
+        pub fn trivsome_missing(ends: *const [u32; 129]) -> u64;
+        pub fn trivsome_runs(ends: *const [u32; 129]) -> u64;
+        pub fn trivsome_run(ends: *const [u32; 129], place: u32) -> u64;
+    }
+}
+
+// The fields of a quote stand as the numbers that are lent do: code, reveal, limit and status as nine bytes, then total,
+// trade, bids and asks as 23 numbers. The slots of prices are 60 bytes and 50 numbers.
+const _: () = {
+    let (bytes, amounts) = (offset_of!(Quote, code), offset_of!(Quote, total));
+    assert!(offset_of!(Quote, reveal) == bytes + 6);
+    assert!(offset_of!(Quote, limit) == bytes + 7);
+    assert!(offset_of!(Quote, status) == bytes + 8);
+    assert!(offset_of!(Quote, trade) == amounts + 4);
+    assert!(offset_of!(Quote, bids) == amounts + 12);
+    assert!(offset_of!(Quote, asks) == amounts + 52);
+    assert!(bytes + 9 <= size_of::<Quote>() && amounts + 92 <= size_of::<Quote>() && amounts % 4 == 0);
+    assert!(size_of::<[crate::Pair; 5]>() == 40 && size_of::<[crate::Amounts; 10]>() == 200);
+    assert!(offset_of!(crate::Pair, price) == 0 && offset_of!(crate::Amounts, total) == 16);
+};
+
+#[inline]
+pub fn read(line: &[u8], at: usize) -> u64 {
+    // SAFETY: the line is lent for the call, with its length.
+    unsafe { calls::trivsome_read(line.as_ptr(), line.len(), at) }
+}
+
+#[inline]
+pub fn read_notice(line: &[u8], at: usize, category: &mut u8, text: &mut [u8; 60]) -> u64 {
+    // SAFETY: the line is lent with its length, the rest by references that nothing else holds.
+    unsafe { calls::trivsome_read_notice_numbers(line.as_ptr(), line.len(), at, category, text) }
+}
+
+#[inline]
+pub fn read_halt(line: &[u8], at: usize, code: &mut [u8; 6], event: &mut [u32; 4]) -> u64 {
+    // SAFETY: the line is lent with its length, the rest by references that nothing else holds.
+    unsafe { calls::trivsome_read_halt_numbers(line.as_ptr(), line.len(), at, code, event) }
+}
+
+/// The quote's own fields are lent; its number is in the outcome.
+#[inline]
+pub fn read_quote(line: &[u8], at: usize, quote: &mut Quote) -> u64 {
+    let whole: *mut Quote = quote;
+    // SAFETY: the three parts lie in the quote that is lent, apart and laid out as is asserted above.
+    unsafe {
+        let bytes = whole.byte_add(offset_of!(Quote, code)).cast();
+        let time = whole.byte_add(offset_of!(Quote, time)).cast();
+        let amounts = whole.byte_add(offset_of!(Quote, total)).cast();
+        calls::trivsome_read_quote_numbers(line.as_ptr(), line.len(), at, bytes, time, amounts)
+    }
+}
+
+/// The prices' own fields are lent; their number is in the outcome.
+#[inline]
+pub fn read_prices(line: &[u8], at: usize, prices: &mut Prices) -> u64 {
+    let Prices { count, codes, amounts, times, .. } = prices;
+    let (codes, amounts): (*mut _, *mut _) = (codes, amounts);
+    // SAFETY: the four fields are apart; ten codes are 60 bytes, and ten times five amounts 50 numbers, as asserted above.
+    unsafe {
+        calls::trivsome_read_prices_numbers(line.as_ptr(), line.len(), at, count, codes.cast(), amounts.cast(), times)
+    }
+}
+
+#[inline]
+pub fn write_notice(seq: u32, category: u8, text: &[u8], buffer: &mut [u8]) -> u64 {
+    let (room, buffer) = (buffer.len(), buffer.as_mut_ptr());
+    // SAFETY: text and buffer are lent for the call, each with its length.
+    unsafe { calls::trivsome_write_notice_numbers(seq, category, text.as_ptr(), text.len(), buffer, room) }
+}
+
+#[inline]
+pub fn write_halt(seq: u32, code: &[u8; 6], event: &[u32; 4], buffer: &mut [u8]) -> u64 {
+    let (room, buffer) = (buffer.len(), buffer.as_mut_ptr());
+    // SAFETY: the buffer is lent with its length, the rest by references.
+    unsafe { calls::trivsome_write_halt_numbers(seq, code, event, buffer, room) }
+}
+
+/// The quote's own fields are lent.
+#[inline]
+pub fn write_quote(quote: &Quote, buffer: &mut [u8]) -> u64 {
+    let whole: *const Quote = quote;
+    let (room, buffer) = (buffer.len(), buffer.as_mut_ptr());
+    // SAFETY: both parts lie in the quote that is lent, laid out as is asserted above.
+    unsafe {
+        let bytes = whole.byte_add(offset_of!(Quote, code)).cast();
+        let amounts = whole.byte_add(offset_of!(Quote, total)).cast();
+        calls::trivsome_write_quote_numbers(quote.seq, bytes, quote.time, amounts, buffer, room)
+    }
+}
+
+/// The prices' own fields are lent.
+#[inline]
+pub fn write_prices(prices: &Prices, buffer: &mut [u8]) -> u64 {
+    let Prices { seq, count, codes, amounts, times } = prices;
+    let (codes, amounts): (*const _, *const _) = (codes, amounts);
+    let (room, buffer) = (buffer.len(), buffer.as_mut_ptr());
+    // SAFETY: ten codes are 60 bytes, and ten times five amounts 50 numbers, as asserted above.
+    unsafe { calls::trivsome_write_prices_numbers(*seq, *count, codes.cast(), amounts.cast(), times, buffer, room) }
+}
+
+#[inline]
+pub fn move_at(line: &[u8], at: usize, closed: bool) -> u64 {
+    // SAFETY: the line is lent for the call, with its length.
+    unsafe { calls::trivsome_move(line.as_ptr(), line.len(), at, closed) }
+}
+
+/// The tally: accepted, refused, skipped, waiting. Answers 0 or 16.
+#[inline]
+pub fn walk(tally: &mut [u64; 4], line: &[u8], closed: bool) -> u64 {
+    // SAFETY: the line is lent with its length, the tally by a reference that nothing else holds.
+    unsafe { calls::trivsome_walk(tally, line.as_ptr(), line.len(), closed) }
+}
+
+#[inline]
+pub fn clear(ends: &mut [u32; 129]) {
+    // SAFETY: the ends are lent by a reference that nothing else holds.
+    unsafe { calls::trivsome_clear(ends) }
+}
+
+#[inline]
+pub fn arrive(ends: &mut [u32; 129], n: u32) -> u64 {
+    // SAFETY: the ends are lent by a reference that nothing else holds.
+    unsafe { calls::trivsome_arrive(ends, n) }
+}
+
+#[inline]
+pub fn highest(ends: &[u32; 129]) -> u64 {
+    // SAFETY: the ends are lent by a reference.
+    unsafe { calls::trivsome_highest(ends) }
+}
+
+#[inline]
+pub fn heard(ends: &[u32; 129]) -> u64 {
+    // SAFETY: the ends are lent by a reference.
+    unsafe { calls::trivsome_heard(ends) }
+}
+
+#[inline]
+pub fn missing(ends: &[u32; 129]) -> u64 {
+    // SAFETY: the ends are lent by a reference.
+    unsafe { calls::trivsome_missing(ends) }
+}
+
+#[inline]
+pub fn runs(ends: &[u32; 129]) -> u64 {
+    // SAFETY: the ends are lent by a reference.
+    unsafe { calls::trivsome_runs(ends) }
+}
+
+#[inline]
+pub fn run(ends: &[u32; 129], place: u32) -> u64 {
+    // SAFETY: the ends are lent by a reference.
+    unsafe { calls::trivsome_run(ends, place) }
+}

@@ -1,0 +1,108 @@
+//! A line walked: its moves, and its tally.
+
+use std::fmt;
+
+use crate::outcome::{Answer, Outcome};
+use crate::raw;
+
+/// Whether more bytes may come behind a line.
+#[derive(Clone, Copy, Debug, PartialEq, Eq, Hash)]
+pub enum Line {
+    Open,
+    Closed,
+}
+
+impl Line {
+    #[inline]
+    fn is_closed(self) -> bool {
+        self == Line::Closed
+    }
+}
+
+/// One move of a walk: its place, how many bytes it goes past, and what the reading said there. The message of an accepted
+/// frame is read at the place.
+#[derive(Clone, Copy, Debug, PartialEq, Eq, Hash)]
+pub struct Move {
+    pub at: usize,
+    pub bytes: usize,
+    pub answer: Answer,
+}
+
+/// The moves over a line, from its first byte on. They end at the line's end or, on an open line, where the rest waits.
+#[derive(Clone, Debug)]
+pub struct Moves<'a> {
+    line: &'a [u8],
+    at: usize,
+    closed: bool,
+}
+
+impl<'a> Moves<'a> {
+    #[inline]
+    pub fn new(bytes: &'a [u8], line: Line) -> Moves<'a> {
+        Moves { line: bytes, at: 0, closed: line.is_closed() }
+    }
+
+    /// The bytes that no move has gone past yet; after the last move, those that wait.
+    #[inline]
+    pub fn rest(&self) -> &'a [u8] {
+        self.line.get(self.at..).unwrap_or(&[])
+    }
+}
+
+impl Iterator for Moves<'_> {
+    type Item = Move;
+
+    #[inline]
+    fn next(&mut self) -> Option<Move> {
+        let outcome = Outcome::of(raw::move_at(self.line, self.at, self.closed));
+        let bytes = outcome.length();
+        if bytes == 0 {
+            return None;
+        }
+        let at = self.at;
+        self.at += bytes;
+        Some(Move { at, bytes, answer: outcome.answer() })
+    }
+}
+
+/// Bytes in accepted frames, in refused frames, skipped, and waiting.
+#[derive(Clone, Copy, Debug, Default, PartialEq, Eq, Hash)]
+pub struct Tally {
+    pub accepted: u64,
+    pub refused: u64,
+    pub skipped: u64,
+    pub waiting: u64,
+}
+
+/// 16: one of the first three figures and the line's length are too much together. The tally is as it was.
+#[derive(Clone, Copy, Debug, PartialEq, Eq, Hash)]
+pub struct TooMuch;
+
+impl TooMuch {
+    /// The paper's number.
+    pub const NUMBER: u8 = 16;
+}
+
+impl fmt::Display for TooMuch {
+    fn fmt(&self, f: &mut fmt::Formatter) -> fmt::Result {
+        f.write_str("16: the tally cannot hold the line's bytes")
+    }
+}
+
+impl std::error::Error for TooMuch {}
+
+impl Tally {
+    /// Walks a line and moves the tally on: the first three figures grow, the waiting figure is replaced.
+    #[inline]
+    pub fn walk(&mut self, bytes: &[u8], line: Line) -> Result<(), TooMuch> {
+        let mut figures = [self.accepted, self.refused, self.skipped, self.waiting];
+        let answer = raw::walk(&mut figures, bytes, line.is_closed());
+        let [accepted, refused, skipped, waiting] = figures;
+        *self = Tally { accepted, refused, skipped, waiting };
+        if answer == 0 {
+            Ok(())
+        } else {
+            Err(TooMuch)
+        }
+    }
+}

@@ -1,0 +1,7 @@
+//! The wrapper on the edges of docs/RULES.md, with what is expected worked out by hand.
+
+mod frames;
+mod ledger;
+mod reading;
+mod walking;
+mod writing;

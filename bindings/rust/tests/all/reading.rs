@@ -1,0 +1,141 @@
+use trivsome::*;
+
+use crate::frames::{around, quote, HALT, NOTICE};
+
+fn number(line: &[u8]) -> u8 {
+    read(line, 0).number()
+}
+
+#[test]
+fn there_are_too_few_bytes_or_none() {
+    assert_eq!(read(&[], 0).answer(), Answer::NoFrame(2));
+    assert_eq!(number(&[0x1B, 0x0A]), 2);
+    assert_eq!(number(&NOTICE[..13]), 2);
+    assert_eq!(read(&NOTICE, 14).answer(), Answer::NoFrame(2));
+    assert_eq!(read(&NOTICE, usize::MAX).answer(), Answer::NoFrame(2));
+}
+
+#[test]
+fn a_bad_start_and_a_bad_length() {
+    assert_eq!(number(&[0x41]), 1);
+    assert_eq!(number(&[0x1B, 0x0A, 0x14]), 3);
+    assert_eq!(number(&[0x1B, 0x00, 0x13]), 3);
+    assert_eq!(number(&[0x1B, 0x10, 0x25]), 3);
+    assert_eq!(number(&[0x1B, 0x10, 0x24]), 2);
+}
+
+#[test]
+fn the_smallest_notice() {
+    let (frame, notice) = read_notice(&NOTICE, 0).expect("accepted");
+    assert_eq!(frame, Frame { format: 5, seq: 1, length: 14 });
+    assert_eq!((notice.seq, notice.category, notice.text()), (1, 9, &[][..]));
+    assert_eq!(Notice::new(1, 9, b""), Some(notice));
+}
+
+#[test]
+fn its_end_and_its_check_byte() {
+    let mut other = NOTICE;
+    other[11] = 0x18;
+    assert_eq!(read(&other, 0).answer(), Answer::NoFrame(5));
+    other = NOTICE;
+    other[13] = 0x0B;
+    assert_eq!(read(&other, 0).answer(), Answer::NoFrame(4));
+}
+
+#[test]
+fn refusals_tell_the_length() {
+    let refused = |format, version, body: &[u8]| read(&around(format, version, body), 0).answer();
+    assert_eq!(refused(0x0A, 1, &[0x09]), Answer::Refused(6, 14));
+    assert_eq!(refused(0x07, 1, &[0x09]), Answer::Refused(7, 14));
+    assert_eq!(refused(0x05, 2, &[0x09]), Answer::Refused(8, 14));
+    assert_eq!(refused(0x19, 1, &[0x09]), Answer::Refused(9, 14));
+    assert_eq!(refused(0x05, 1, &[0x0A]), Answer::Refused(11, 14));
+    assert_eq!(refused(0x05, 1, &[0x08, 0x41]), Answer::Refused(13, 15));
+    let mut halt = HALT[10..23].to_vec();
+    halt[6] = 0x24;
+    assert_eq!(refused(0x19, 1, &halt), Answer::Refused(12, 26));
+}
+
+#[test]
+fn a_halt_that_is_still_open() {
+    let (frame, halt) = read_halt(&HALT, 0).expect("accepted");
+    assert_eq!(frame, Frame { format: 19, seq: 1, length: 26 });
+    let event = Event::Halted(100_500, Resume::Open);
+    assert_eq!(halt, Halt { seq: 1, code: *b"1234  ", event, state: Sending::Instant });
+    assert!(!halt.is_whole_market());
+}
+
+#[test]
+fn a_round_end_says_how_many_records_it_had() {
+    let mut body = b"000123".to_vec();
+    body.extend([0x99, 0x99, 0x99, 0x99, 0x99, 0x99, b'C']);
+    let (_, halt) = read_halt(&around(0x19, 1, &body), 0).expect("accepted");
+    assert_eq!(halt, Halt { seq: 7, code: *b"000123", event: Event::RoundEnd(123), state: Sending::Cycle });
+}
+
+#[test]
+fn the_reveal_byte_gives_the_pairs_and_the_length() {
+    let (frame, read) = read_quote(&quote(0xA2, 4), 0).expect("accepted");
+    let pair = |k: u32| Pair { price: Price(k), quantity: Quantity(10 * k) };
+    assert_eq!(frame, Frame { format: 6, seq: 7, length: 68 });
+    assert_eq!((read.code, read.time, read.total), (*b"2330  ", 90_415_061_278, Quantity(12_345)));
+    assert_eq!((read.reveal, read.limit, read.status), (0xA2, 1, 2));
+    assert_eq!(read.trade(), Some(pair(1)));
+    assert_eq!(read.bids(), [pair(2), pair(3)]);
+    assert_eq!(read.asks(), [pair(4)]);
+    assert!(read.bids[2..].iter().chain(&read.asks[1..]).all(|&pair| pair == Pair::default()));
+}
+
+#[test]
+fn all_pairs_none_and_too_many() {
+    let (frame, all) = read_quote(&quote(0xDA, 11), 0).expect("accepted");
+    assert_eq!((frame.length, all.asks[4].price), (131, Price(11)));
+    let (frame, none) = read_quote(&quote(0x00, 0), 0).expect("accepted");
+    assert_eq!((frame.length, none.trade(), none.bids().len(), none.asks().len()), (32, None, 0, 0));
+    assert_eq!(read_quote(&quote(0x60, 6), 0), Err(Answer::Refused(10, 86)));
+    assert_eq!(read_quote(&quote(0xA2, 3), 0), Err(Answer::Refused(9, 59)));
+}
+
+#[test]
+fn prices_of_one_stock() {
+    let mut body = vec![0x01];
+    body.extend(b"2330  ");
+    for last in [1, 3, 0, 2] {
+        body.extend([0x09, 0, 0, 0, last]);
+    }
+    body.extend([0x99, 0x99, 0x99, 0x99]);
+    body.extend([0x99; 6]);
+    for _ in 1..10 {
+        body.extend(b"      ");
+        body.extend([0; 30]);
+    }
+    let frame = around(0x12, 3, &body);
+    let (_, prices) = read_prices(&frame, 0).expect("accepted");
+    let [opening, highest, lowest, last] = [1, 3, 0, 2].map(|last| Price(900_000_000 + last));
+    let amounts = Amounts { opening, highest, lowest, last, total: Quantity(99_999_999) };
+    let slot = Slot { code: *b"2330  ", amounts, time: LONG_NINES };
+    assert_eq!(prices, Prices::new(7, &[slot]));
+    assert!(prices.slots().eq([slot]) && slot.is_closing());
+    let mut buffer = [0; 374];
+    assert_eq!(write_prices(&prices, &mut buffer), Ok(374));
+    assert_eq!(buffer[..], frame);
+}
+
+#[test]
+fn a_frame_of_another_format_is_told_with_its_answer() {
+    let frame = Frame { format: 19, seq: 1, length: 26 };
+    assert_eq!(read_quote(&HALT, 0), Err(Answer::Accepted(frame)));
+    assert!(matches!(read_message(&HALT, 0), Ok((told, Message::Halt(_))) if told == frame));
+    let lent = Quote { seq: 5, reveal: 1, ..Quote::default() };
+    let mut quote = lent;
+    assert!(read_quote_into(&HALT, 0, &mut quote).accepts(19));
+    assert_eq!(quote, lent);
+}
+
+#[test]
+fn a_refusal_leaves_what_was_lent() {
+    let lent = Quote { seq: 5, time: 6, code: *b"ABCDEF", reveal: 7, total: Quantity(8), ..Quote::default() };
+    let mut quote = lent;
+    assert_eq!(read_quote_into(&NOTICE[..13], 0, &mut quote).number(), 2);
+    assert_eq!(quote, lent);
+}
