@@ -4,6 +4,7 @@
 
 pub mod compare;
 pub mod digits;
+pub mod faults;
 pub mod five;
 pub mod gaps;
 pub mod generate;

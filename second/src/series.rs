@@ -127,11 +127,10 @@ pub fn texts(seed: u64, arrivals: usize) -> Vec<String> {
     texts
 }
 
-/// A number a line, some of them outside the allowed ones, and an empty line.
-fn one_series(random: &mut Random, length: usize) -> String {
+/// A series of so many arrivals, some of them outside the allowed numbers.
+pub fn arrivals(random: &mut Random, length: usize) -> Vec<u32> {
     let mut series = Series::default();
-    let mut text = String::new();
-    for _ in 0..length {
+    let mut one = || {
         let number = match random.below(100) {
             0 => 0,
             1 => 100_000_000 + random.amount(899_999_999) as u32,
@@ -139,6 +138,15 @@ fn one_series(random: &mut Random, length: usize) -> String {
             _ => series.next(random),
         };
         series.came(number);
+        number
+    };
+    (0..length).map(|_| one()).collect()
+}
+
+/// A number a line, and an empty line.
+fn one_series(random: &mut Random, length: usize) -> String {
+    let mut text = String::new();
+    for number in arrivals(random, length) {
         let _ = writeln!(text, "{number}");
     }
     text + "\n"

@@ -1,10 +1,13 @@
 //! The generator: the same lines from the same seed, whole frames that are accepted, and every answer.
 
+use std::collections::BTreeSet;
+
+use second::faults::{names, spoil};
 use second::generate::Generator;
 use second::random::Random;
-use second::read;
 use second::seen::Seen;
 use second::series::texts;
+use second::{read, write, NotWritten};
 
 #[test]
 fn a_known_series() {
@@ -53,4 +56,18 @@ fn so_many_arrivals() {
     let arrivals = texts.iter().flat_map(|text| text.lines()).filter(|line| line.parse::<u32>().is_ok()).count();
     assert_eq!(arrivals, 20_000);
     assert!(texts.iter().all(|text| text.len() <= 65_536));
+}
+
+#[test]
+fn every_fault_answers_14() {
+    let (mut generator, mut random) = (Generator::new(4), Random::new(4));
+    let mut seen = BTreeSet::new();
+    for _ in 0..5000 {
+        let mut message = *read(&generator.whole()).message().expect("a whole frame has a message");
+        let name = spoil(&mut message, &mut random);
+        assert_eq!(write(&message, &mut [0; 400]), Err(NotWritten::Message), "{name}: {message:?}");
+        assert_eq!(write(&message, &mut []), Err(NotWritten::Message), "{name}: {message:?}");
+        seen.insert(name);
+    }
+    assert!(seen.into_iter().eq(names().into_iter().collect::<BTreeSet<_>>()));
 }

@@ -1,0 +1,121 @@
+//! What the second program's answers and messages are in the library's forms, and the texts of differences.
+
+use std::fmt::Debug;
+
+use second::{five, nineteen, six, twelve};
+
+/// An outcome of a reading: answer, format, length and sequence number in one number.
+pub fn outcome(answer: &second::Answer) -> u64 {
+    let message = answer.message();
+    let format = message.map_or(0, second::Message::format);
+    let seq = message.map_or(0, second::Message::number);
+    packed(answer.number(), format, answer.length().unwrap_or(0), seq)
+}
+
+pub fn packed(answer: u8, format: u8, length: usize, seq: u32) -> u64 {
+    u64::from(answer) | u64::from(format) << 8 | (length as u64) << 16 | u64::from(seq) << 32
+}
+
+/// An outcome in words.
+pub fn told(outcome: u64) -> String {
+    let (answer, format, length, seq) = (outcome & 255, outcome >> 8 & 255, outcome >> 16 & 65_535, outcome >> 32);
+    format!("answer {answer}, format {format}, length {length}, number {seq}")
+}
+
+/// The notice, if its text has 60 bytes at most.
+pub fn notice(notice: &five::Notice) -> Option<trivsome::Notice> {
+    trivsome::Notice::new(notice.number, notice.category, notice.text.get(..notice.text_length)?)
+}
+
+fn pair(pair: &six::Pair) -> trivsome::Pair {
+    trivsome::Pair { price: trivsome::Price(pair.price.0), quantity: trivsome::Quantity(pair.quantity.0) }
+}
+
+/// The quote. The pairs that the second program keeps behind those in use go to the places that are not in use, in order.
+pub fn quote(quote: &six::Quote) -> trivsome::Quote {
+    let reveal = six::Reveal::of(quote.reveal);
+    let (bids, asks) = (reveal.bids.min(5), reveal.asks.min(5));
+    let trade = usize::from(reveal.trade);
+    let mut used = quote.pairs.iter().map(pair);
+    let mut unused = quote.pairs[trade + bids + asks..].iter().map(pair);
+    let mut next = |is_used: bool| if is_used { used.next() } else { unused.next() }.unwrap_or_default();
+    let first = next(reveal.trade);
+    let mut side = |count: usize| std::array::from_fn(|level| next(level < count));
+    trivsome::Quote {
+        time: quote.time,
+        seq: quote.number,
+        total: trivsome::Quantity(quote.total.0),
+        trade: first,
+        bids: side(bids),
+        asks: side(asks),
+        code: quote.code,
+        reveal: quote.reveal,
+        limit: quote.limit,
+        status: quote.status,
+    }
+}
+
+pub fn prices(prices: &twelve::Prices) -> trivsome::Prices {
+    trivsome::Prices {
+        seq: prices.number,
+        count: prices.count.min(255) as u8,
+        codes: prices.slots.map(|slot| slot.code),
+        amounts: prices.slots.map(|slot| trivsome::Amounts {
+            opening: trivsome::Price(slot.opening.0),
+            highest: trivsome::Price(slot.highest.0),
+            lowest: trivsome::Price(slot.lowest.0),
+            last: trivsome::Price(slot.last.0),
+            total: trivsome::Quantity(slot.total.0),
+        }),
+        times: prices.slots.map(|slot| slot.time),
+    }
+}
+
+pub fn halt(halt: &nineteen::Halt) -> trivsome::Halt {
+    let event = match halt.event {
+        nineteen::Event::RoundEnd { records } => trivsome::Event::RoundEnd(records),
+        nineteen::Event::Halted { at, resume: nineteen::Resume::Open } => {
+            trivsome::Event::Halted(at, trivsome::Resume::Open)
+        }
+        nineteen::Event::Halted { at, resume: nineteen::Resume::At(resumed) } => {
+            trivsome::Event::Halted(at, trivsome::Resume::At(resumed))
+        }
+    };
+    let state = match halt.state {
+        nineteen::State::Cycle => trivsome::Sending::Cycle,
+        nineteen::State::AtOnce => trivsome::Sending::Instant,
+    };
+    trivsome::Halt { seq: halt.number, code: halt.code, event, state }
+}
+
+/// The four numbers of a halt's event and state. A resume at 999999, which they cannot tell from an open one, is another number
+/// that is no time of day.
+pub fn event(halt: &nineteen::Halt) -> [u32; 4] {
+    let state = match halt.state {
+        nineteen::State::Cycle => 67,
+        nineteen::State::AtOnce => 73,
+    };
+    match halt.event {
+        nineteen::Event::RoundEnd { records } => [0, records, 0, state],
+        nineteen::Event::Halted { at, resume: nineteen::Resume::Open } => [1, at, 999_999, state],
+        nineteen::Event::Halted { at, resume: nineteen::Resume::At(999_999) } => [1, at, 1_999_999, state],
+        nineteen::Event::Halted { at, resume: nineteen::Resume::At(resumed) } => [1, at, resumed, state],
+    }
+}
+
+/// A difference: what is spoken of, and what each side says of it.
+pub fn differ(what: &str, proved: &impl Debug, second: &impl Debug) -> String {
+    let (proved, second) = (format!("{proved:?}"), format!("{second:?}"));
+    let same = proved.bytes().zip(second.bytes()).take_while(|(one, other)| one == other).count();
+    let mut text = format!("{what} differs\n  proved: {proved}\n  second: {second}");
+    if same > 80 {
+        let before: String = proved.chars().take(same).collect();
+        text += &format!("\n  they part behind: {}", before.split_at_checked(same - 60).unwrap_or_default().1);
+    }
+    text
+}
+
+pub fn hex(bytes: &[u8]) -> String {
+    let bytes: Vec<String> = bytes.iter().map(|byte| format!("{byte:02X}")).collect();
+    bytes.join(" ")
+}
