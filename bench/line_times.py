@@ -1,0 +1,112 @@
+"""The listing: the proved program and the second one on whole lines, from a file to a file."""
+
+import filecmp
+import pathlib
+import random
+import shutil
+import subprocess
+import sys
+import time
+
+import machine
+
+WORK = machine.ROOT / "target" / "bench"
+MB = 10 ** 6
+
+
+def build():
+    return machine.built(machine.ROOT / "native" / "build", "program", "listing"), machine.cargo("second", "listing")
+
+
+# ---------------------------------------------------------------------------------------------------------------------
+# The lines.
+
+def packed(number, digits):
+    return bytes.fromhex(str(number).zfill(digits + digits % 2))
+
+
+def quote(seq, chance):
+    """A quote of 113 bytes: a trade, four bids and four asks."""
+    body = b"%-6d" % chance.randrange(1000, 10000) + packed(90415061278, 12) + bytes([0xC8, 0, 0]) + packed(chance.randrange(10 ** 8), 8)
+    body += b"".join(packed(chance.randrange(10 ** 9), 9) + packed(chance.randrange(10 ** 8), 8) for _ in range(9))
+    inner = packed(13 + len(body), 4) + b"\x01\x06\x04" + packed(seq, 8) + body
+    check = 0
+    for byte in inner:
+        check ^= byte
+    return b"\x1b" + inner + bytes([check]) + b"\r\n"
+
+
+def lines(quick):
+    """Name, what is repeated, and how many bytes of it."""
+    chance = random.Random(1)
+    good = b"".join(quote(seq, chance) for seq in range(1, 2001 if quick else 20001))
+    # 27s that each claim about a thousand bytes up to a right end, so that each check byte is worked out
+    false_frames = b"".join(b"\x1b" + packed(1024 - 3 * n, 4) for n in range(10)) + b"\r\n"
+    for size in [1, 10] if quick else [1, 10, 100, 200, 1000]:
+        yield "good frames of 113 bytes", good, size * MB
+    size = (2 if quick else 20) * MB
+    yield "noise without a 27", bytes(range(28, 255)), size
+    yield "all 27s", b"\x1b", size
+    yield "false lengths of 1,024", b"\x1b\x10\x24", size
+    yield "false frames with right ends", false_frames, size
+
+
+def write(path, block, size):
+    block *= max(1, MB // len(block))
+    with open(path, "wb") as file:
+        for at in range(0, size, len(block)):
+            file.write(block[:size - at])
+
+
+# ---------------------------------------------------------------------------------------------------------------------
+
+def timed(program, line, output):
+    with open(line, "rb") as source, open(output, "wb") as sink:
+        start = time.perf_counter()
+        subprocess.run([program], stdin=source, stdout=sink, check=True)
+        return time.perf_counter() - start
+
+
+def memory(program, line):
+    """The most memory of a run: what the system says when all but the last bytes of the line are read."""
+    with open(line, "rb") as source, subprocess.Popen([program], stdin=subprocess.PIPE, stdout=subprocess.DEVNULL) as run:
+        shutil.copyfileobj(source, run.stdin, MB)
+        run.stdin.flush()
+        try:
+            status = pathlib.Path(f"/proc/{run.pid}/status").read_text()
+        except OSError:
+            status = ""
+    most = [row.split()[1] for row in status.splitlines() if row.startswith("VmHWM")]
+    return f"{int(most[0]) / 1000:.1f} MB" if most else "-"
+
+
+def one(programs, name, line, rounds):
+    """Compares both on a line, times each in its turn, and prints a row."""
+    outputs = WORK / "proved", WORK / "second"
+    turn = lambda: [timed(program, line, output) for program, output in zip(programs, outputs)]
+    turn()
+    if not filecmp.cmp(*outputs, shallow=False):
+        sys.exit(f"bench: the listings of {name} differ: {outputs[0]} and {outputs[1]}")
+    rows = [turn() for _ in range(rounds)]
+    proved, second = map(min, zip(*rows))
+    length = line.stat().st_size
+    print(f"  {name:32} {length / MB:6.0f} {proved:9.3f} {second:9.3f} {proved / second:6.2f} {length / proved / MB:7.0f} {proved / length * 1e9:8.2f}"
+          + "".join(f" {memory(program, line):>9}" for program in programs))
+
+
+def run(programs, quick):
+    WORK.mkdir(parents=True, exist_ok=True)
+    print("listing: a line in a file, listed into a file")
+    print(f"  {'':32} {'MB':>6} {'proved s':>9} {'second s':>9} {'ratio':>6} {'MB/s':>7} {'ns/byte':>8} {'memory':>9} {'second':>9}")
+    line = WORK / "line"
+    try:
+        for name, block, size in lines(quick):
+            if shutil.disk_usage(WORK).free < 3 * size + 1000 * MB:
+                print(f"  {name:32} {size / MB:6.0f} left out: the disk has no room for it")
+                continue
+            write(line, block, size)
+            one(programs, name, line, 3 if quick or size >= 500 * MB else 5)
+    finally:
+        line.unlink(missing_ok=True)
+    for output in ("proved", "second"):
+        (WORK / output).unlink(missing_ok=True)
