@@ -8,6 +8,7 @@ use lib.ListN.{length, getD, take, drop}
 use lib.Seq.{take-add, drop-drop, drop-cons}
 use Rattle.digits.specs.Words.{bytes}
 use Rattle.digits.specs.Halves.{halvesOf}
+use Rattle.digits.specs.declared.halves.Halves.{Halves}
 use Rattle.digits.proofs.Lanes.{word}
 use Rattle.digits.proofs.Leaf.{leafOf, leaf}
 
@@ -60,3 +61,13 @@ padded (suc n) k l = ap (λ (j : ℕ). halvesOf j (bytes (suc n) 0 ++ l)) (suc-a
 -- a number shifted up by n bytes holds the halves of its own bytes
 pub halves-shift : (n m k y : ℕ) → halvesOf (n + k) (bytes (n + m) (y * 256 ^ n)) ≡ halvesOf k (bytes m y)
 halves-shift n m k y = ap (halvesOf (n + k)) (bytes-shift n m y) ∙ padded n k (bytes m y)
+
+-- the first number as the last, and none before it
+abbrev pub lowered : Halves → Halves
+lowered h = record { good = h .good; first = 0; last = h .first }
+
+-- zero bytes behind four change neither: the first number of the eight is the number of the four
+pub halves-low : (x : ℕ) → x < 256 ^ 4 → lowered (halvesOf 4 (bytes 8 x)) ≡ halvesOf 0 (bytes 4 x)
+halves-low x h =
+    let e : x ≡ x + 0 * 256 ^ 4 = omega arith in
+    ap (λ (y : ℕ). lowered (halvesOf 4 (bytes 8 y))) e ∙ ap (λ (l : List ℕ). lowered (halvesOf 4 l)) (bytes-append 4 4 x 0 h)

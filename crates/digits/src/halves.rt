@@ -44,15 +44,20 @@ fn none() -> Halves
     }
 }
 
-// The four bytes from a place that the caller knows to be inside: zero bytes stand before them.
+// The four bytes from a place that the caller knows to be inside: worked out in the low half, with zero bytes after them.
 pub(crate) fn four_in(s: &[u8], at: usize) -> Halves
     requires { ⌜ at + 4 ≤ length (now s) ⌝ }
     ensures { λ r. ⌜ r ≡ halvesOf 0 (take 4 (drop at (now (s .entry)))) ⌝ }
 {
-    digits(four(s, at) * 4294967296)
+    let h = digits(four(s, at));
+    Halves {
+        good: h.good,
+        first: 0,
+        last: h.first,
+    }
 }
 
-// The same of six bytes.
+// The same of six bytes: zero bytes stand before them.
 fn six_in(s: &[u8], at: usize) -> Halves
     requires { ⌜ at + 6 ≤ length (now s) ⌝ }
     ensures { λ r. ⌜ r ≡ halvesOf 2 (take 6 (drop at (now (s .entry)))) ⌝ }
