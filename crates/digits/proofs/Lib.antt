@@ -12,6 +12,7 @@ pub mod Readings
 pub mod Within
 pub mod ReadSteps
 pub mod WriteSteps
+pub mod PutLaws
 pub mod FieldLaws
 pub mod Determined
 pub mod DeterminedFields

@@ -61,8 +61,12 @@ module _ (v w end k : ℕ) (e e₀ : List ℕ) (some : 0 < k) (inside : k ≤ en
       rw (one-more, done, left) (sets-back p e₀ k (k - 1) b (omega arith) ∙ ap (λ (i : ℕ). sets (set e₀ (k - 1) b) i p) f)
 
 -- where it ends
-pub write-ends : (v n : ℕ) (e₀ : List ℕ) (at k : ℕ) (e : List ℕ) → n ≤ 9 → at + n ≤ length e₀ → v < 100 ^ n → k ≡ at
-    → e ≡ sets e₀ k (packed (at + n - k) v) → (Put.Done ≡ putAnswer v n e₀ at) × (e ≡ putAt v n e₀ at)
-write-ends v n e₀ at k e w h l q done =
+pub write-ends : (v n : ℕ) (e₀ : List ℕ) (at k : ℕ) (e : List ℕ) → k ≡ at → e ≡ sets e₀ k (packed (at + n - k) v) → e ≡ sets e₀ at (packed n v)
+write-ends v n e₀ at k e q done =
     let m : at + n - k ≡ n = omega arith in
-    rw (within-all e₀ at n w h, lt-ltb v (100 ^ n) l) (refl, rw (m, q) at done)
+    rw (m, q) at done
+
+-- the bytes written: done
+pub write-done : (v n : ℕ) (e₀ : List ℕ) (at : ℕ) (e : List ℕ) → n ≤ 9 → at + n ≤ length e₀ → v < 100 ^ n
+    → e ≡ sets e₀ at (packed n v) → (Put.Done ≡ putAnswer v n e₀ at) × (e ≡ putAt v n e₀ at)
+write-done v n e₀ at e w h l done = rw (within-all e₀ at n w h, lt-ltb v (100 ^ n) l) (refl, done)

@@ -1,10 +1,16 @@
 // A packed field of any width up to nine bytes, read out of and written into lent bytes.
 ghost use mathlib.Core.Path.{_≡_};
-ghost use Prim.Native.Nat.{_≤_, _^_};
+ghost use Prim.Native.Nat.{_+_, _*_, _/_, _%_, _<_, _≤_, _^_};
+ghost use lib.ListN.{length};
+ghost use lib.Seq.{sets};
+ghost use Rattle.digits.specs.Packed.{byteOf, packed};
 ghost use Rattle.digits.specs.Fields.{fieldAt, putAnswer, putAt};
 
 // The most bytes whose number always fits a u64.
 pub const WIDEST: usize = 9;
+
+// The first number that four bytes cannot hold.
+const PAST_FOUR: u64 = 100_000_000;
 
 // What reading a field finds.
 pub enum Field {
@@ -71,7 +77,45 @@ fn limit(n: usize) -> u64
     r
 }
 
-// Writes a number as n bytes from a place; a refusal leaves every byte.
+// The last 2n digits of a number as n bytes from a place, byte after byte.
+fn put_each(v: u64, n: usize, buf: &mut [u8], at: usize)
+    requires { ⌜ at + n ≤ length (now buf) ⌝ }
+    ensures { λ r. ⌜ now (buf .exit) ≡ sets (now (buf .entry)) at (packed n v) ⌝ }
+{
+    let mut w = v;
+    let mut k = at + n;
+    while at < k {
+        k -= 1;
+        let d = (w % 100) as u8;
+        buf[k] = d / 10 * 16 + d % 10;
+        w = w / 100;
+    }
+}
+
+// The two bytes of four digits, sixteen bits apart: 103 / 1024 of a number below 100 is its tens, and one product has both.
+fn two_bytes(a: u32) -> u32
+    requires { ⌜ a < 10000 ⌝ }
+    ensures { λ r. ⌜ r ≡ byteOf (a / 100) + byteOf (a % 100) * 65536 ⌝ }
+{
+    let y = a / 100 + a % 100 * 65536;
+    let t = ((y * 103) >> 10) & 0x000f000f;
+    y + t * 6
+}
+
+// Eight digits as four bytes from a place.
+fn put_four(v: u32, buf: &mut [u8], at: usize)
+    requires { ⌜ (v < 100000000) × (at + 4 ≤ length (now buf)) ⌝ }
+    ensures { λ r. ⌜ now (buf .exit) ≡ sets (now (buf .entry)) at (packed 4 v) ⌝ }
+{
+    let a = two_bytes(v / 10000);
+    let b = two_bytes(v % 10000);
+    buf[at] = (a % 256) as u8;
+    buf[at + 1] = (a / 65536) as u8;
+    buf[at + 2] = (b % 256) as u8;
+    buf[at + 3] = (b / 65536) as u8;
+}
+
+// Writes a number as n bytes from a place, the last four of them at once; a refusal leaves every byte.
 pub fn write(v: u64, n: usize, buf: &mut [u8], at: usize) -> Put
     ensures { λ r. ⌜ (r ≡ putAnswer v n (now (buf .entry)) at) × (now (buf .exit) ≡ putAt v n (now (buf .entry)) at) ⌝ }
 {
@@ -87,13 +131,11 @@ pub fn write(v: u64, n: usize, buf: &mut [u8], at: usize) -> Put
     if limit(n) <= v {
         return Put::TooLarge;
     }
-    let mut w = v;
-    let mut k = at + n;
-    while at < k {
-        k -= 1;
-        let d = (w % 100) as u8;
-        buf[k] = d / 10 * 16 + d % 10;
-        w = w / 100;
+    if n < 4 {
+        put_each(v, n, buf, at);
+        return Put::Done;
     }
+    put_each(v / PAST_FOUR, n - 4, buf, at);
+    put_four((v % PAST_FOUR) as u32, buf, at + (n - 4));
     Put::Done
 }

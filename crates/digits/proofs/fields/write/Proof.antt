@@ -1,111 +1,122 @@
--- `fields::write` meets its contract. The loop's invariant: from k on the field's last digits are written, and w is the rest.
-use Prim.Native.Nat.{_+_, _-_, _/_, _^_, _≤_}
-use mathlib.Core.Path.{_≡_}
+-- `fields::write` meets its contract.
+use Prim.Native.Nat.{ℕ, _+_, _-_, _/_, _%_, _^_, _≤_, _<_}
+use mathlib.Core.Path.{_≡_, ap, _∙_}
+use mathlib.Core.List.{List}
 use borrow.Author.Needs.{needs}
 use native.Mathlib.Omega.{arith}
+use lib.ListN.{length}
 use lib.Seq.{sets}
 use Rattle.digits.specs.Packed.{packed}
-use Rattle.digits.proofs.WriteSteps.{write-wide, write-past, write-large, write-starts, write-left, write-turn, write-length, write-ends}
+use Rattle.digits.proofs.WriteSteps.{write-wide, write-past, write-large, write-length, write-done}
+use Rattle.digits.proofs.PutLaws.{put-join}
 use Rattle.digits.proofs.fields.write.Statement.{statement}
 use Rattle.digits.proofs.fields.write.Tie as tie
 
-abbrev Inv-loop : tie.InvT-loop
-Inv-loop v n buf₀ at w₀ k₀ buf w k =
-    (at ≤ k) × (k ≤ at + n) × (w ≡ v / 100 ^ (at + n - k)) × (buf ≡ sets buf₀ k (packed (at + n - k) v))
+-- from where the number fits the field back to the start
+abbrev start : tie.Else4 → tie.Start
+start c = c .before .before .before .before .before .before
 
-abbrev μ-loop : tie.MeasureT-loop
-μ-loop v n buf₀ at w₀ k₀ buf w k = k - at
+-- the field lies inside, and the number is below its limit
+module _ (c : tie.Else4) where
+  narrow : start c .args .n ≤ 9
+  narrow = omega arith
 
-returns : tie.Need-returns Inv-loop μ-loop
+  inside : start c .args .at + start c .args .n ≤ length (start c .args .buf .now)
+  inside = omega arith
+
+  fits : start c .args .v < 100 ^ start c .args .n
+  fits = omega arith
+
+returns : tie.Need-returns
 returns c = let a = c .before .before .args in write-wide (a .v) (a .n) (a .buf .now) (a .at) (omega arith)
 
-returns-2 : tie.Need-returns-2 Inv-loop μ-loop
+returns-2 : tie.Need-returns-2
 returns-2 c = let a = c .before .before .before .args in write-past (a .v) (a .n) (a .buf .now) (a .at) (omega arith) (omega arith)
 
-sub-if3 : tie.Need-sub-if3 Inv-loop μ-loop
+sub-if3 : tie.Need-sub-if3
 sub-if3 c = search needs
 
-returns-3 : tie.Need-returns-3 Inv-loop μ-loop
+returns-3 : tie.Need-returns-3
 returns-3 c = let a = c .before .before .before .before .args in write-past (a .v) (a .n) (a .buf .now) (a .at) (omega arith) (omega arith)
 
-limit-requires : tie.Need-limit-requires Inv-loop μ-loop
+limit-requires : tie.Need-limit-requires
 limit-requires c κs = search needs
 
-returns-4 : tie.Need-returns-4 Inv-loop μ-loop
+returns-4 : tie.Need-returns-4
 returns-4 c = let a = c .before .before .before .before .before .before .args in write-large (a .v) (a .n) (a .buf .now) (a .at) (omega arith) (omega arith) (omega arith)
 
-add-k : tie.Need-add-k Inv-loop μ-loop
-add-k c = search needs
+put-each-requires : tie.Need-put-each-requires
+put-each-requires c κs = search needs
 
-loop-holds : tie.Need-loop-holds Inv-loop μ-loop
-loop-holds c =
-    let a = c .before .before .before .before .before .before .args in
-    let s = write-starts (a .v) (a .at + a .n) (a .buf .now) in
-    (omega arith, omega arith, s .0, s .1)
-
-sub-k : tie.Need-sub-k Inv-loop μ-loop
-sub-k c = search needs
-
-cast-d : tie.Need-cast-d Inv-loop μ-loop
-cast-d c = search needs
-
-mul-buf : tie.Need-mul-buf Inv-loop μ-loop
-mul-buf c = search needs
-
-add-buf : tie.Need-add-buf Inv-loop μ-loop
-add-buf c = search needs
-
-slice-write-buf : tie.Need-slice-write-buf Inv-loop μ-loop
-slice-write-buf c =
-    let a = c .before .before .before .before .before .before .before .before .args in
-    let l = c .before .loop in
-    omega (arith, write-length (a .v) (a .at + a .n - l .k) (l .k) (l .buf) (a .buf .now) (l .inv .3))
-
-loop-less : tie.Need-loop-less Inv-loop μ-loop
-loop-less c = search needs
-
-loop-again : tie.Need-loop-again Inv-loop μ-loop
-loop-again c =
-    let a = c .before .before .before .before .before .before .before .before .args in
-    let l = c .before .loop in (
-      omega arith,
-      omega arith,
-      write-left (a .v) (l .w) (a .at + a .n) (l .k) (l .buf) (a .buf .now) (omega arith) (omega arith) (l .inv .2) (l .inv .3),
-      write-turn (a .v) (l .w) (a .at + a .n) (l .k) (l .buf) (a .buf .now) (omega arith) (omega arith) (l .inv .2) (l .inv .3),
-    )
-
-same-length : tie.Need-same-length Inv-loop μ-loop
+same-length : tie.Need-same-length
 same-length c =
-    let a = c .before .before .before .before .before .before .before .before .args in
-    let l = c .before .loop in
-    write-length (a .v) (a .at + a .n - l .k) (l .k) (l .buf) (a .buf .now) (l .inv .3)
+    let p = c .before .before .put-each in
+    let a = start (c .before .before .before .before .before) .args in
+    write-length (a .v) (a .n) (a .at) (p .last .1 .1 .0) (a .buf .now) (p .ensures)
 
-returns-5 : tie.Need-returns-5 Inv-loop μ-loop
+returns-5 : tie.Need-returns-5
 returns-5 c =
-    let a = c .before .before .before .before .before .before .before .before .args in
-    let l = c .before .loop in
-    write-ends (a .v) (a .n) (a .buf .now) (a .at) (l .k) (l .buf) (omega arith) (omega arith) (omega arith) (omega arith) (l .inv .3)
+    let p = c .before .before .put-each in
+    let o = c .before .before .before .before .before in
+    let a = start o .args in
+    write-done (a .v) (a .n) (a .buf .now) (a .at) (p .last .1 .1 .0) (narrow o) (inside o) (fits o) (p .ensures)
+
+put-each-requires-2 : tie.Need-put-each-requires-2
+put-each-requires-2 c κs = search needs
+
+cast-put-four : tie.Need-cast-put-four
+cast-put-four c = search needs
+
+add-put-four : tie.Need-add-put-four
+add-put-four c = search needs
+
+put-four-requires : tie.Need-put-four-requires
+put-four-requires c κs =
+    let p = c .before .before .before .put-each2 in
+    let o = c .before .before .before .before .before .before in
+    let a = start o .args in
+    let l = write-length (a .v / 100000000) (a .n - 4) (a .at) (p .last .1 .1 .0) (a .buf .now) (p .ensures) in
+    (omega arith, omega (arith, l, inside o))
+
+-- the last four bytes written behind the others
+put : (c : tie.After-slice-known4) →
+    let a = start (c .before .before .before .before .before .before .before .before .before) .args in
+    c .before .before .put-four .last .1 .0 ≡ sets (a .buf .now) (a .at) (packed (a .n) (a .v))
+put c =
+    let p = c .before .before .before .before .before .before .put-each2 in
+    let q = c .before .before .put-four in
+    let o = c .before .before .before .before .before .before .before .before .before in
+    let a = start o .args in
+    q .ensures ∙ ap (λ (l : List ℕ). sets l (a .at + (a .n - 4)) (packed 4 (a .v % 100000000))) (p .ensures)
+    ∙ put-join (a .v) (a .n) (a .at) (a .buf .now) (omega arith)
+
+same-length-2 : tie.Need-same-length-2
+same-length-2 c =
+    let a = start (c .before .before .before .before .before .before .before .before .before) .args in
+    write-length (a .v) (a .n) (a .at) (c .before .before .put-four .last .1 .0) (a .buf .now) (put c)
+
+returns-6 : tie.Need-returns-6
+returns-6 c =
+    let o = c .before .before .before .before .before .before .before .before .before in
+    let a = start o .args in
+    write-done (a .v) (a .n) (a .buf .now) (a .at) (c .before .before .put-four .last .1 .0) (narrow o) (inside o) (fits o) (put c)
 
 pub write-spec : {M : Type 1} → statement M
 write-spec =
     tie.close
     (tie.spec
-    Inv-loop
-    μ-loop
     returns
     returns-2
     sub-if3
     returns-3
     limit-requires
     returns-4
-    add-k
-    loop-holds
-    sub-k
-    cast-d
-    mul-buf
-    add-buf
-    slice-write-buf
-    loop-less
-    loop-again
+    put-each-requires
     same-length
-    returns-5)
+    returns-5
+    put-each-requires-2
+    cast-put-four
+    add-put-four
+    put-four-requires
+    same-length-2
+    returns-6)
