@@ -5,7 +5,7 @@ ghost use mathlib.Core.List.{_∷_, [], _++_};
 ghost use Prim.Native.Nat.{_+_, _-_, _≤_};
 ghost use lib.Dec.{leb};
 ghost use lib.ListN.{length, take, drop};
-ghost use Rattle.ledger.specs.Ends.{places, heardIn, withRun};
+ghost use Rattle.ledger.specs.Ends.{places, falling, endsFrom, heardIn, withRun};
 ghost use Rattle.ledger.specs.Steps.{seenOf, NoneBetween, takenAnswer, takenEnds};
 use crate::record::Arrival;
 
@@ -32,26 +32,55 @@ fn at_or_above(n: u32, end: u32) -> u32
     if n <= end { 1 } else { 0 }
 }
 
-// Looks at every end, with no way out at the first that is out of order: so the compiler takes several at a time.
-pub(crate) fn look(bound: u32, n: u32, ends: &[u32]) -> Seen
+// Whether each end lies below the one before it, the first below a bound, and behind the last stand zeros. There is no way out
+// at the first that is out of order: so the compiler takes several at a time.
+fn falls(bound: u32, ends: &[u32]) -> bool
     requires { ⌜ length (now ends) ≡ places ⌝ }
-    ensures { λ r. ⌜ r ≡ seenOf bound n (now (ends .entry)) ⌝ }
+    ensures { λ r. ⌜ r ≡ falling bound (now (ends .entry)) ⌝ }
 {
     let mut wrong: u32 = 0;
-    let mut from: u32 = 0;
     let mut above = bound;
     let mut i = 0;
     while i < 129 {
         let end = ends[i];
         wrong += out_of_order(above, end);
-        from += at_or_above(n, end);
         above = end;
         i += 1;
     }
-    Seen {
-        in_order: wrong == 0,
-        from,
+    wrong == 0
+}
+
+// How many ends are a number or above it, several at a time too.
+fn count_from(n: u32, ends: &[u32]) -> u32
+    requires { ⌜ length (now ends) ≡ places ⌝ }
+    ensures { λ r. ⌜ r ≡ endsFrom n (now (ends .entry)) ⌝ }
+{
+    let mut from: u32 = 0;
+    let mut i = 0;
+    while i < 129 {
+        from += at_or_above(n, ends[i]);
+        i += 1;
     }
+    from
+}
+
+// Looks at every end. Where they fall and the first is below the number, as in a series that arrives in order, there is
+// nothing to count.
+pub(crate) fn look(bound: u32, n: u32, ends: &[u32]) -> Seen
+    requires { ⌜ length (now ends) ≡ places ⌝ }
+    ensures { λ r. ⌜ r ≡ seenOf bound n (now (ends .entry)) ⌝ }
+{
+    let in_order = falls(bound, ends);
+    if in_order {
+        if ends[0] < n {
+            return Seen {
+                in_order: true,
+                from: 0,
+            };
+        }
+    }
+    let from = count_from(n, ends);
+    Seen { in_order, from }
 }
 
 // a - b, and 0 where b is more.

@@ -1,0 +1,71 @@
+-- `ends::falls` meets its contract. The loop's invariant: the ends so far are in order and those left decide.
+use Prim.Native.Nat.{_-_, _≤_}
+use native.Mathlib.Omega.{arith}
+use mathlib.Core.Path.{_≡_, refl}
+use mathlib.Core.Bool.{_&&_}
+use lib.Dec.{eqb}
+use lib.ListN.{drop}
+use Rattle.ledger.specs.Ends.{falling}
+use Rattle.ledger.proofs.LoopLaws.{falls-on, falls-ends}
+use borrow.Author.Needs.{needs}
+use Rattle.ledger.proofs.ends.falls.Statement.{statement}
+use Rattle.ledger.proofs.ends.falls.Tie as tie
+
+abbrev Inv-loop : tie.InvT-loop
+Inv-loop bound ends wrong₀ above₀ i₀ wrong above i = (i ≤ 129) × (wrong ≤ i) × ((eqb wrong 0 && falling above (drop i ends)) ≡ falling bound ends)
+
+abbrev μ-loop : tie.MeasureT-loop
+μ-loop bound ends wrong₀ above₀ i₀ wrong above i = 129 - i
+
+loop-holds : tie.Need-loop-holds Inv-loop μ-loop
+loop-holds c = (search needs, search needs, refl)
+
+mul-end : tie.Need-mul-end Inv-loop μ-loop
+mul-end c = search needs
+
+shared-slice-read-end : tie.Need-shared-slice-read-end Inv-loop μ-loop
+shared-slice-read-end c = search needs
+
+out-of-order-requires : tie.Need-out-of-order-requires Inv-loop μ-loop
+out-of-order-requires c κs = search needs
+
+add-wrong : tie.Need-add-wrong Inv-loop μ-loop
+add-wrong c = search needs
+
+add-i : tie.Need-add-i Inv-loop μ-loop
+add-i c = search needs
+
+loop-less : tie.Need-loop-less Inv-loop μ-loop
+loop-less c = search needs
+
+loop-again : tie.Need-loop-again Inv-loop μ-loop
+loop-again c =
+    let a = c .before .before .before .before .before .args in
+    let l = c .before .before .before .loop in
+    let x = c .out-of-order in (
+      search needs,
+      search needs,
+      falls-on (l .wrong) (x .result) (l .above) (a .bound) (l .i) (a .ends .now) (omega arith) (l .inv .2) (x .ensures .0),
+    )
+
+returns : tie.Need-returns Inv-loop μ-loop
+returns c =
+    let a = c .before .before .before .args in
+    let l = c .before .loop in
+    falls-ends (l .wrong) (l .above) (a .bound) (l .i) (a .ends .now) (omega arith) (l .inv .2)
+
+pub falls-spec : {M : Type 1} → statement M
+falls-spec =
+    tie.close
+    (tie.spec
+    Inv-loop
+    μ-loop
+    loop-holds
+    mul-end
+    shared-slice-read-end
+    out-of-order-requires
+    add-wrong
+    add-i
+    loop-less
+    loop-again
+    returns)
