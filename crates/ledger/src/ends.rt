@@ -50,18 +50,26 @@ fn falls(bound: u32, ends: &[u32]) -> bool
     wrong == 0
 }
 
-// How many ends are a number or above it, several at a time too.
-fn count_from(n: u32, ends: &[u32]) -> u32
+// The order of all ends, and how many are a number or above it, in one loop.
+fn look_over(bound: u32, n: u32, ends: &[u32]) -> Seen
     requires { ⌜ length (now ends) ≡ places ⌝ }
-    ensures { λ r. ⌜ r ≡ endsFrom n (now (ends .entry)) ⌝ }
+    ensures { λ r. ⌜ r ≡ seenOf bound n (now (ends .entry)) ⌝ }
 {
+    let mut wrong: u32 = 0;
     let mut from: u32 = 0;
+    let mut above = bound;
     let mut i = 0;
     while i < 129 {
-        from += at_or_above(n, ends[i]);
+        let end = ends[i];
+        wrong += out_of_order(above, end);
+        from += at_or_above(n, end);
+        above = end;
         i += 1;
     }
-    from
+    Seen {
+        in_order: wrong == 0,
+        from,
+    }
 }
 
 // Looks at every end. Where they fall and the first is below the number, as in a series that arrives in order, there is
@@ -70,17 +78,15 @@ pub(crate) fn look(bound: u32, n: u32, ends: &[u32]) -> Seen
     requires { ⌜ length (now ends) ≡ places ⌝ }
     ensures { λ r. ⌜ r ≡ seenOf bound n (now (ends .entry)) ⌝ }
 {
-    let in_order = falls(bound, ends);
-    if in_order {
-        if ends[0] < n {
+    if ends[0] < n {
+        if falls(bound, ends) {
             return Seen {
                 in_order: true,
                 from: 0,
             };
         }
     }
-    let from = count_from(n, ends);
-    Seen { in_order, from }
+    look_over(bound, n, ends)
 }
 
 // a - b, and 0 where b is more.

@@ -7,24 +7,24 @@ use borrow.Author.Needs.{needs}
 use Rattle.ledger.proofs.ends.look.Statement.{statement}
 use Rattle.ledger.proofs.ends.look.Tie as tie
 
+shared-slice-read-if1 : tie.Need-shared-slice-read-if1
+shared-slice-read-if1 c = search needs
+
 falls-requires : tie.Need-falls-requires
 falls-requires c κs = search needs
-
-shared-slice-read-if2 : tie.Need-shared-slice-read-if2
-shared-slice-read-if2 c = search needs
 
 returns : tie.Need-returns
 returns c =
     let a = c .before .before .before .before .before .args in
-    let e : falling (a .bound) (a .ends .now) ≡ true = sym (c .before .before .before .falls .ensures) ∙ c .before .before .if1 .taken in
-    let f : endsFrom (a .n) (a .ends .now) ≡ 0 = from-above-first (a .bound) (a .n) (a .ends .now) e (c .if2 .taken) in
+    let e : falling (a .bound) (a .ends .now) ≡ true = sym (c .before .falls .ensures) ∙ c .if2 .taken in
+    let f : endsFrom (a .n) (a .ends .now) ≡ 0 = from-above-first (a .bound) (a .n) (a .ends .now) e (c .before .before .if1 .taken) in
     rw (e, f) refl
 
-count-from-requires : tie.Need-count-from-requires
-count-from-requires c κs = search needs
+look-over-requires : tie.Need-look-over-requires
+look-over-requires c κs = search needs
 
 returns-2 : tie.Need-returns-2
-returns-2 c = rw (sym (c .before .before .falls .ensures), sym (c .count-from .ensures)) refl
+returns-2 c = c .look-over .ensures
 
 pub look-spec : {M : Type 1} → statement M
-look-spec = tie.close (tie.spec falls-requires shared-slice-read-if2 returns count-from-requires returns-2)
+look-spec = tie.close (tie.spec shared-slice-read-if1 falls-requires returns look-over-requires returns-2)
