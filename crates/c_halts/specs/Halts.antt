@@ -4,7 +4,10 @@ use mathlib.Core.Bool.{Bool, cond, _&&_}
 use mathlib.Core.List.{List, [], _∷_, _++_}
 use lib.ListN.{getD}
 use lib.Dec.{eqb}
-use Rattle.halts.specs.Halts.{resumeOf, resumeNumber, sendingOf, sendingByte, stateRight}
+use Rattle.frame.specs.Codec.{legal, frameOf}
+use Rattle.frame.specs.Writing.{writeAnswer, writtenOver}
+use Rattle.outcomes.specs.Outcomes.{writeOutcome}
+use Rattle.halts.specs.Halts.{nineteenCodec, resumeOf, resumeNumber, sendingOf, sendingByte, stateRight}
 use Rattle.halts.specs.declared.Event.{Event}
 use Rattle.halts.specs.declared.Event.the-variants.{RoundEnd, Halted}
 use Rattle.halts.specs.declared.Halt.{Halt}
@@ -28,3 +31,10 @@ eventFrom ns = cond (eqb (getD ns 0 0) 0) (RoundEnd (getD ns 1 0)) (Halted (getD
 
 abbrev pub haltFrom : ℕ → List ℕ → List ℕ → Halt
 haltFrom seq code ns = record { seq = seq; code = code; event = eventFrom ns; state = sendingOf (getD ns 3 0) }
+
+-- such numbers and their halt written: what it answers, and the buffer afterwards; numbers that are no halt's are 14
+abbrev pub haltOutcome : List ℕ → Halt → List ℕ → ℕ
+haltOutcome ns h buf = writeOutcome (writeAnswer (tellsHalt ns && legal nineteenCodec h) (frameOf nineteenCodec h) buf)
+
+abbrev pub haltBytes : List ℕ → Halt → List ℕ → List ℕ
+haltBytes ns h buf = writtenOver (tellsHalt ns && legal nineteenCodec h) (frameOf nineteenCodec h) buf

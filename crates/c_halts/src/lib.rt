@@ -1,14 +1,10 @@
 // Calls for C and Rust: halts read and written. A code, and an event as four numbers.
 ghost use mathlib.Core.Path.{_≡_};
-ghost use mathlib.Core.Bool.{_&&_};
 ghost use lib.ListN.{drop};
-ghost use Rattle.frame.specs.Codec.{legal, frameOf};
-ghost use Rattle.frame.specs.Writing.{writeAnswer, writtenOver};
 ghost use Rattle.frames.specs.Reading.{haltAt};
-ghost use Rattle.halts.specs.Halts.{nineteenCodec};
-ghost use Rattle.outcomes.specs.Outcomes.{readOutcome, writeOutcome};
+ghost use Rattle.outcomes.specs.Outcomes.{readOutcome};
 ghost use Rattle.outcomes.specs.Lent.{lent};
-ghost use Rattle.c_halts.specs.Halts.{haltNumbers, tellsHalt, haltFrom};
+ghost use Rattle.c_halts.specs.Halts.{haltNumbers, haltFrom, haltOutcome, haltBytes};
 
 mod numbers;
 
@@ -45,6 +41,7 @@ pub extern "C" fn trivsome_read_halt_numbers(
     of_answer(answer)
 }
 
+// A halt of such numbers written at the start of a buffer: 0 with the length, 14 or 15; numbers of no event are 14.
 #[no_mangle]
 pub extern "C" fn trivsome_write_halt_numbers(
     seq: u32,
@@ -52,8 +49,8 @@ pub extern "C" fn trivsome_write_halt_numbers(
     event: &[u32; 4],
     buf: &mut [u8],
 ) -> u64
-    ensures { λ r. ⌜ r ≡ writeOutcome (writeAnswer (tellsHalt (now (event .entry)) && legal nineteenCodec (haltFrom seq (now (code .entry)) (now (event .entry)))) (frameOf nineteenCodec (haltFrom seq (now (code .entry)) (now (event .entry)))) (now (buf .entry))) ⌝ }
-    ensures { λ _. ⌜ now (buf .exit) ≡ writtenOver (tellsHalt (now (event .entry)) && legal nineteenCodec (haltFrom seq (now (code .entry)) (now (event .entry)))) (frameOf nineteenCodec (haltFrom seq (now (code .entry)) (now (event .entry)))) (now (buf .entry)) ⌝ }
+    ensures { λ r. ⌜ r ≡ haltOutcome (now (event .entry)) (haltFrom seq (now (code .entry)) (now (event .entry))) (now (buf .entry)) ⌝ }
+    ensures { λ _. ⌜ now (buf .exit) ≡ haltBytes (now (event .entry)) (haltFrom seq (now (code .entry)) (now (event .entry))) (now (buf .entry)) ⌝ }
 {
     if !tells_halt(event) {
         return of_written(Written::Illegal);

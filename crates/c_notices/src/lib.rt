@@ -1,12 +1,11 @@
 // Calls for C and Rust: notices read and written. A category and a text.
 ghost use mathlib.Core.Path.{_≡_};
 ghost use lib.ListN.{drop};
-ghost use Rattle.frame.specs.Codec.{legal, frameOf};
-ghost use Rattle.frame.specs.Writing.{writeAnswer, writtenOver};
 ghost use Rattle.frames.specs.Reading.{noticeAt};
 ghost use Rattle.notices.specs.Notices.{fiveCodec};
-ghost use Rattle.outcomes.specs.Outcomes.{readOutcome, writeOutcome};
+ghost use Rattle.outcomes.specs.Outcomes.{readOutcome};
 ghost use Rattle.outcomes.specs.Lent.{lent};
+ghost use Rattle.outcomes.specs.Written.{writtenOutcome, writtenBytes};
 ghost use Rattle.c_notices.specs.Notices.{noticeFrom};
 use frame::bytes::put_bytes;
 use frames::reading::read_notice;
@@ -39,6 +38,7 @@ pub extern "C" fn trivsome_read_notice_numbers(
     of_answer(answer)
 }
 
+// A notice of a number, a category and a text, written at the start of a buffer: 0 with the length, 14 or 15.
 #[no_mangle]
 pub extern "C" fn trivsome_write_notice_numbers(
     seq: u32,
@@ -46,8 +46,8 @@ pub extern "C" fn trivsome_write_notice_numbers(
     text: &[u8],
     buf: &mut [u8],
 ) -> u64
-    ensures { λ r. ⌜ r ≡ writeOutcome (writeAnswer (legal fiveCodec (noticeFrom seq category (now (text .entry)))) (frameOf fiveCodec (noticeFrom seq category (now (text .entry)))) (now (buf .entry))) ⌝ }
-    ensures { λ _. ⌜ now (buf .exit) ≡ writtenOver (legal fiveCodec (noticeFrom seq category (now (text .entry)))) (frameOf fiveCodec (noticeFrom seq category (now (text .entry)))) (now (buf .entry)) ⌝ }
+    ensures { λ r. ⌜ r ≡ writtenOutcome fiveCodec (noticeFrom seq category (now (text .entry))) (now (buf .entry)) ⌝ }
+    ensures { λ _. ⌜ now (buf .exit) ≡ writtenBytes fiveCodec (noticeFrom seq category (now (text .entry))) (now (buf .entry)) ⌝ }
 {
     let length = text.len();
     let mut room = [0; 60];

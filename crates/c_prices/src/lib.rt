@@ -1,12 +1,11 @@
 // Calls for C and Rust: opening and closing prices read and written. A count, and the codes, amounts and times of ten slots.
 ghost use mathlib.Core.Path.{_≡_};
 ghost use lib.ListN.{drop};
-ghost use Rattle.frame.specs.Codec.{legal, frameOf};
-ghost use Rattle.frame.specs.Writing.{writeAnswer, writtenOver};
 ghost use Rattle.frames.specs.Reading.{pricesAt};
 ghost use Rattle.prices.specs.Prices.{twelveCodec};
-ghost use Rattle.outcomes.specs.Outcomes.{readOutcome, writeOutcome};
+ghost use Rattle.outcomes.specs.Outcomes.{readOutcome};
 ghost use Rattle.outcomes.specs.Lent.{lent};
+ghost use Rattle.outcomes.specs.Written.{writtenOutcome, writtenBytes};
 ghost use Rattle.c_prices.specs.Slots.{slotCodes, slotAmounts, slotTimes, pricesFrom};
 
 mod slots;
@@ -51,6 +50,7 @@ pub extern "C" fn trivsome_read_prices_numbers(
     of_answer(answer)
 }
 
+// Prices of such numbers written at the start of a buffer: 0 with the length, 14 or 15.
 #[no_mangle]
 pub extern "C" fn trivsome_write_prices_numbers(
     seq: u32,
@@ -60,8 +60,8 @@ pub extern "C" fn trivsome_write_prices_numbers(
     times: &[u64; 10],
     buf: &mut [u8],
 ) -> u64
-    ensures { λ r. ⌜ r ≡ writeOutcome (writeAnswer (legal twelveCodec (pricesFrom seq count (now (codes .entry)) (now (amounts .entry)) (now (times .entry)))) (frameOf twelveCodec (pricesFrom seq count (now (codes .entry)) (now (amounts .entry)) (now (times .entry)))) (now (buf .entry))) ⌝ }
-    ensures { λ _. ⌜ now (buf .exit) ≡ writtenOver (legal twelveCodec (pricesFrom seq count (now (codes .entry)) (now (amounts .entry)) (now (times .entry)))) (frameOf twelveCodec (pricesFrom seq count (now (codes .entry)) (now (amounts .entry)) (now (times .entry)))) (now (buf .entry)) ⌝ }
+    ensures { λ r. ⌜ r ≡ writtenOutcome twelveCodec (pricesFrom seq count (now (codes .entry)) (now (amounts .entry)) (now (times .entry))) (now (buf .entry)) ⌝ }
+    ensures { λ _. ⌜ now (buf .exit) ≡ writtenBytes twelveCodec (pricesFrom seq count (now (codes .entry)) (now (amounts .entry)) (now (times .entry))) (now (buf .entry)) ⌝ }
 {
     let slots = slots_of(codes, amounts, times);
     let prices = Prices { seq, count, slots };

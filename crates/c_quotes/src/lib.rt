@@ -1,12 +1,11 @@
 // Calls for C and Rust: quotes read and written. Nine bytes, a time and 23 amounts.
 ghost use mathlib.Core.Path.{_≡_};
 ghost use lib.ListN.{drop};
-ghost use Rattle.frame.specs.Codec.{legal, frameOf};
-ghost use Rattle.frame.specs.Writing.{writeAnswer, writtenOver};
 ghost use Rattle.frames.specs.Reading.{quoteAt};
 ghost use Rattle.quotes.specs.Quotes.{sixCodec};
-ghost use Rattle.outcomes.specs.Outcomes.{readOutcome, writeOutcome};
+ghost use Rattle.outcomes.specs.Outcomes.{readOutcome};
 ghost use Rattle.outcomes.specs.Lent.{lent};
+ghost use Rattle.outcomes.specs.Written.{writtenOutcome, writtenBytes};
 ghost use Rattle.c_quotes.specs.Quotes.{quoteBytes, quoteAmounts, quoteFrom};
 
 mod numbers;
@@ -45,6 +44,7 @@ pub extern "C" fn trivsome_read_quote_numbers(
     of_answer(answer)
 }
 
+// A quote of such numbers written at the start of a buffer: 0 with the length, 14 or 15.
 #[no_mangle]
 pub extern "C" fn trivsome_write_quote_numbers(
     seq: u32,
@@ -53,8 +53,8 @@ pub extern "C" fn trivsome_write_quote_numbers(
     amounts: &[u32; 23],
     buf: &mut [u8],
 ) -> u64
-    ensures { λ r. ⌜ r ≡ writeOutcome (writeAnswer (legal sixCodec (quoteFrom seq (now (bytes .entry)) time (now (amounts .entry)))) (frameOf sixCodec (quoteFrom seq (now (bytes .entry)) time (now (amounts .entry)))) (now (buf .entry))) ⌝ }
-    ensures { λ _. ⌜ now (buf .exit) ≡ writtenOver (legal sixCodec (quoteFrom seq (now (bytes .entry)) time (now (amounts .entry)))) (frameOf sixCodec (quoteFrom seq (now (bytes .entry)) time (now (amounts .entry)))) (now (buf .entry)) ⌝ }
+    ensures { λ r. ⌜ r ≡ writtenOutcome sixCodec (quoteFrom seq (now (bytes .entry)) time (now (amounts .entry))) (now (buf .entry)) ⌝ }
+    ensures { λ _. ⌜ now (buf .exit) ≡ writtenBytes sixCodec (quoteFrom seq (now (bytes .entry)) time (now (amounts .entry))) (now (buf .entry)) ⌝ }
 {
     let quote = quote_of(seq, bytes, time, amounts);
     of_written(quotes::writing::write(quote, buf))

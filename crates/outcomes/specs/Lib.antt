@@ -1,3 +1,4 @@
 -- The definitions that the contracts cite.
 pub mod Outcomes
 pub mod Lent
+pub mod Written
