@@ -1,0 +1,125 @@
+-- The outcome of a call on a ledger tells the answer: an arrival's, a figure's and a run's.
+use Prim.Native.Nat.{ℕ, _+_, _-_, _*_, _/_, _≤_}
+use mathlib.Core.Path.{_≡_, refl, subst, _∙_}
+use mathlib.Core.Bool.{Bool, true, false, cond, not}
+use native.Mathlib.Omega.{arith}
+use lib.Dec.{eqb, ltb}
+use Rattle.ledger.specs.Ends.{falling, firstOf, lastOf, runsIn}
+use Rattle.ledger.specs.Calls.{mostNumber, arrivalNumber, figureNumber, runNumber, valid, arrivedOf, figureBy, figureOf, runOf}
+use Rattle.ledger.specs.declared.record.Ledger.{Ledger}
+use Rattle.ledger.specs.declared.record.Arrival.{Arrival}
+use Rattle.ledger.specs.declared.record.Arrived.{Arrived}
+use Rattle.ledger.specs.declared.record.Figure.{Figure}
+use Rattle.ledger.specs.declared.record.RunAt.{RunAt}
+use Rattle.ledger.proofs.EndLaws.{falls-bound}
+use Rattle.ledger.proofs.ArriveLaws.{arrive-damaged, Arrives, outside, repeats, full, new, arrives}
+use Rattle.outcomes.specs.Outcomes.{answerPart}
+use Rattle.c_ledger.specs.Outcomes.{arrivalOutcome, figureOutcome, runOutcome, firstPart, lastPart}
+
+-- what stands above the answer
+abbrev pub abovePart : ℕ → ℕ
+abovePart x = x / 256
+
+-- ---- arrivals
+-- how many numbers more are heard
+abbrev pub heardMore : Arrival → ℕ
+heardMore Arrival.New = 1
+heardMore Arrival.Repeat = 0
+heardMore (Arrival.Refused n) = 0
+
+-- the answer that an arrival's outcome tells
+abbrev pub arrivalIn : ℕ → Arrival
+arrivalIn x = cond (eqb (answerPart x) 0) (cond (eqb (abovePart x) 0) Arrival.Repeat Arrival.New) (Arrival.Refused (answerPart x))
+
+-- what holds of the five answers holds of the answer to any arrival
+of-arrivals : (P : Arrival → Type 0) → P Arrival.New → P Arrival.Repeat → P (Arrival.Refused 20) → P (Arrival.Refused 21) → P (Arrival.Refused 22)
+    → (l : Ledger) (n : ℕ) → P (arrivedOf l n .answer)
+of-arrivals P p q r s t l n = go (valid l) refl
+  where
+    by-case : (x : Arrived) → Arrives l n x → P (x .answer)
+    by-case x (outside e) = s
+    by-case x (repeats lo hi e) = q
+    by-case x (full lo hi e f) = t
+    by-case x (new lo hi e f) = p
+
+    go : (v : Bool) → valid l ≡ v → P (arrivedOf l n .answer)
+    go true v = by-case (arrivedOf l n) (arrives l n v)
+    go false v = subst (λ (x : Arrived). P (x .answer)) (arrive-damaged l n v) r
+
+-- an arrival's outcome tells the answer
+pub arrival-back : (l : Ledger) (n : ℕ) → arrivalIn (arrivalOutcome (arrivedOf l n .answer)) ≡ arrivedOf l n .answer
+arrival-back = of-arrivals (λ a. arrivalIn (arrivalOutcome a) ≡ a) refl refl refl refl refl
+
+-- it has the answer's number, and how many numbers more are heard
+pub arrival-told : (l : Ledger) (n : ℕ) → let a = arrivedOf l n .answer in
+    (answerPart (arrivalOutcome a) ≡ arrivalNumber a) × (abovePart (arrivalOutcome a) ≡ heardMore a)
+arrival-told =
+    of-arrivals (λ a. (answerPart (arrivalOutcome a) ≡ arrivalNumber a) × (abovePart (arrivalOutcome a) ≡ heardMore a))
+    (refl, refl) (refl, refl) (refl, refl) (refl, refl) (refl, refl)
+
+-- ---- figures
+-- the answer that a figure's outcome tells
+abbrev pub figureIn : ℕ → Figure
+figureIn x = cond (eqb (answerPart x) 0) (Figure.Is (abovePart x)) (Figure.Refused (answerPart x))
+
+-- the outcome of a question for any figure of a ledger, as the highest, heard, missing or runs, tells the answer
+pub figure-back : (l : Ledger) (n : ℕ) → figureIn (figureOutcome (figureOf l n)) ≡ figureOf l n
+figure-back l n = go (valid l)
+  where
+    go : (v : Bool) → figureIn (figureOutcome (figureBy v n)) ≡ figureBy v n
+    go true =
+        let a : answerPart (figureOutcome (Figure.Is n)) ≡ 0 = omega arith in
+        let f : abovePart (figureOutcome (Figure.Is n)) ≡ n = omega arith in
+        λ i. cond (eqb (a i) 0) (Figure.Is (f i)) (Figure.Refused (a i))
+    go false = refl
+
+-- it has the answer's number, and where there is a figure the figure
+pub figure-told : (l : Ledger) (n : ℕ) → let x = figureOutcome (figureOf l n) in
+    (answerPart x ≡ figureNumber (figureOf l n)) × ((k : ℕ) → figureOf l n ≡ Figure.Is k → abovePart x ≡ k)
+figure-told l n = go (valid l)
+  where
+    go : (v : Bool) → let x = figureOutcome (figureBy v n) in (answerPart x ≡ figureNumber (figureBy v n)) × ((k : ℕ) → figureBy v n ≡ Figure.Is k → abovePart x ≡ k)
+    go true = (omega arith, λ k e. let same : n ≡ k = cc in omega arith)
+    go false = (refl, λ k e. let z : _≡_ {A = ℕ} 0 1 = cc in absurd (omega arith))
+
+-- ---- runs
+-- the answer that a run's outcome tells
+abbrev pub runIn : ℕ → RunAt
+runIn x = cond (eqb (answerPart x) 0) (RunAt.Run (firstPart x) (lastPart x)) (RunAt.Refused (answerPart x))
+
+valid-falls : (l : Ledger) → valid l ≡ true → falling (mostNumber + 1) (l .ends) ≡ true
+unfolding valid
+valid-falls l v = v
+
+-- what holds of 20, of 23 and of every run whose numbers are small holds of the answer to any question for a run
+of-runs : (P : RunAt → Type 0) → P (RunAt.Refused 20) → P (RunAt.Refused 23) → ((first last : ℕ) → first ≤ 100000000 → last ≤ 99999999 → P (RunAt.Run first last))
+    → (l : Ledger) (k : ℕ) → P (runOf l k)
+of-runs P damaged none run l k = go (valid l) (ltb k (runsIn (l .ends))) refl
+  where
+    go : (v u : Bool) → valid l ≡ v → P (cond (not v) (RunAt.Refused 20) (cond u (RunAt.Run (firstOf (l .ends) k) (lastOf (l .ends) k)) (RunAt.Refused 23)))
+    go true true v =
+        run (firstOf (l .ends) k) (lastOf (l .ends) k)
+        (omega (arith, falls-bound (mostNumber + 1) (l .ends) (2 * (runsIn (l .ends) - k)) (valid-falls l v)))
+        (omega (arith, falls-bound (mostNumber + 1) (l .ends) (2 * (runsIn (l .ends) - k) - 1) (valid-falls l v)))
+    go true false v = none
+    go false u v = damaged
+
+-- the outcome of a question for a run has its first and its last number, and answer 0
+run-parts : (first last : ℕ) → first ≤ 100000000 → last ≤ 99999999 → let x = runOutcome (RunAt.Run first last) in
+    (answerPart x ≡ 0) × (firstPart x ≡ first) × (lastPart x ≡ last)
+run-parts first last low high = (omega arith, omega arith, omega arith)
+
+-- it tells the answer
+pub run-back : (l : Ledger) (k : ℕ) → runIn (runOutcome (runOf l k)) ≡ runOf l k
+run-back =
+    of-runs (λ r. runIn (runOutcome r) ≡ r) refl refl
+    (λ first last low high. let p = run-parts first last low high in λ i. cond (eqb (p .0 i) 0) (RunAt.Run (p .1 i) (p .2 i)) (RunAt.Refused (p .0 i)))
+
+-- it has the answer's number, and where there is a run its first and its last number
+pub run-told : (l : Ledger) (k : ℕ) → let x = runOutcome (runOf l k) in
+    (answerPart x ≡ runNumber (runOf l k)) × ((first last : ℕ) → runOf l k ≡ RunAt.Run first last → (firstPart x ≡ first) × (lastPart x ≡ last))
+run-told =
+    of-runs (λ r. (answerPart (runOutcome r) ≡ runNumber r) × ((first last : ℕ) → r ≡ RunAt.Run first last → (firstPart (runOutcome r) ≡ first) × (lastPart (runOutcome r) ≡ last)))
+    (refl, λ first last e. let z : _≡_ {A = ℕ} 0 1 = cc in absurd (omega arith))
+    (refl, λ first last e. let z : _≡_ {A = ℕ} 0 1 = cc in absurd (omega arith))
+    (λ a z low high. let p = run-parts a z low high in (p .0, λ first last e. let f : a ≡ first = cc in let g : z ≡ last = cc in (p .1 ∙ f, p .2 ∙ g)))
