@@ -1,17 +1,23 @@
 -- The outcome of a call on a ledger tells the answer: an arrival's, a figure's and a run's.
-use Prim.Native.Nat.{ℕ, _+_, _-_, _*_, _/_, _≤_}
-use mathlib.Core.Path.{_≡_, refl, subst, _∙_}
-use mathlib.Core.Bool.{Bool, true, false, cond, not}
+use Prim.Native.Nat.{ℕ, zero, suc, _+_, _-_, _*_, _/_, _%_, _≤_}
+use mathlib.Core.Path.{_≡_, refl, sym, ap, subst, _∙_}
+use mathlib.Core.Bool.{Bool, true, false, cond, not, _||_}
 use native.Mathlib.Omega.{arith}
 use lib.Dec.{eqb, ltb}
-use Rattle.ledger.specs.Ends.{falling, firstOf, lastOf, runsIn}
-use Rattle.ledger.specs.Calls.{mostNumber, arrivalNumber, figureNumber, runNumber, valid, arrivedOf, figureBy, figureOf, runOf}
+use borrow.Author.Tests.{eqb-true, eqb-false, ne-eqb, ltb-false}
+use Rattle.digits.proofs.Bools.{no-false}
+use Rattle.ledger.specs.Sets.{with, countTo}
+use Rattle.ledger.specs.Ends.{falling, heardAt, highestIn, heardIn, firstOf, lastOf, runsIn, turned, withNumber, fitted}
+use Rattle.ledger.specs.Calls.{mostNumber, mostRuns, arrivalNumber, figureNumber, runNumber, valid, arrivedOf, figureBy, figureOf, runOf}
 use Rattle.ledger.specs.declared.record.Ledger.{Ledger}
 use Rattle.ledger.specs.declared.record.Arrival.{Arrival}
 use Rattle.ledger.specs.declared.record.Arrived.{Arrived}
 use Rattle.ledger.specs.declared.record.Figure.{Figure}
 use Rattle.ledger.specs.declared.record.RunAt.{RunAt}
 use Rattle.ledger.proofs.EndLaws.{falls-bound}
+use Rattle.ledger.proofs.SetLaws.{count-same}
+use Rattle.ledger.proofs.TrueLaws.{ends-heard}
+use Rattle.ledger.proofs.TurnLaws.{turn-falls, number-heard, fitted-falls, fitted-from}
 use Rattle.ledger.proofs.ArriveLaws.{arrive-damaged, Arrives, outside, repeats, full, new, arrives}
 use Rattle.outcomes.specs.Outcomes.{answerPart}
 use Rattle.c_ledger.specs.Outcomes.{arrivalOutcome, figureOutcome, runOutcome, firstPart, lastPart}
@@ -19,6 +25,10 @@ use Rattle.c_ledger.specs.Outcomes.{arrivalOutcome, figureOutcome, runOutcome, 
 -- what stands above the answer
 abbrev pub abovePart : ℕ → ℕ
 abovePart x = x / 256
+
+valid-falls : (l : Ledger) → valid l ≡ true → falling (mostNumber + 1) (l .ends) ≡ true
+unfolding valid
+valid-falls l v = v
 
 -- ---- arrivals
 -- how many numbers more are heard
@@ -57,6 +67,48 @@ arrival-told =
     of-arrivals (λ a. (answerPart (arrivalOutcome a) ≡ arrivalNumber a) × (abovePart (arrivalOutcome a) ≡ heardMore a))
     (refl, refl) (refl, refl) (refl, refl) (refl, refl) (refl, refl)
 
+-- a number put into a set that it is not in makes one more
+count-with : (f : ℕ → Bool) (n k : ℕ) → 1 ≤ n → n ≤ k → f n ≡ false → countTo (with n f) k ≡ countTo f k + 1
+count-with f n zero lo hi miss = absurd (omega arith)
+count-with f n (suc k) lo hi miss = go (eqb (suc k) n) refl (f (suc k)) refl (λ le. count-with f n k lo le miss)
+  where
+    go : (s : Bool) → eqb (suc k) n ≡ s → (t : Bool) → f (suc k) ≡ t → (n ≤ k → countTo (with n f) k ≡ countTo f k + 1)
+        → cond (s || t) 1 0 + countTo (with n f) k ≡ cond t 1 0 + countTo f k + 1
+    go true p true q ih = absurd (no-false (sym miss ∙ ap f (sym (eqb-true (suc k) n p)) ∙ q))
+    go true p false q ih =
+        omega (arith, count-same (with n f) f k (λ y one le. ap (λ (b : Bool). b || f y) (ne-eqb y n (λ e. omega (arith, e, eqb-true (suc k) n p)))))
+    go false p t q ih = let apart : suc k ≡ n → ⊥ = eqb-false (suc k) n p in omega (arith, ih (omega arith))
+
+-- so many more are then heard
+pub arrival-grows : (l : Ledger) (n : ℕ) → heardIn (arrivedOf l n .ledger .ends) ≡ heardIn (l .ends) + heardMore (arrivedOf l n .answer)
+arrival-grows l n = go (valid l) refl
+  where
+    grown : falling (mostNumber + 1) (l .ends) ≡ true → 1 ≤ n → n ≤ mostNumber → heardAt (l .ends) n ≡ false
+        → ltb mostRuns (runsIn (withNumber n (l .ends))) ≡ false → heardIn (fitted (withNumber n (l .ends))) ≡ heardIn (l .ends) + 1
+    grown falls lo hi miss few =
+        let es = l .ends in
+        let more = withNumber n es in
+        let more-falls : falling (mostNumber + 1) more ≡ true =
+        turn-falls (mostNumber + 1) (n - 1) (turned n es) (omega arith) (turn-falls (mostNumber + 1) n es (omega arith) falls) in
+        let k = n + highestIn es + highestIn (fitted more) in
+        let same : countTo (heardAt (fitted more)) k ≡ countTo (with n (heardAt es)) k =
+        count-same (heardAt (fitted more)) (with n (heardAt es)) k
+        (λ y one le. ap (λ (c : ℕ). eqb (c % 2) 1) (fitted-from (mostNumber + 1) y more more-falls one (omega (arith, ltb-false mostRuns (runsIn more) few)))
+        ∙ number-heard n y es lo one miss) in
+        sym (ends-heard (mostNumber + 1) (fitted more) k (fitted-falls (mostNumber + 1) more more-falls) (omega arith))
+        ∙ same ∙ count-with (heardAt es) n k lo (omega arith) miss
+        ∙ ap (λ (c : ℕ). c + 1) (ends-heard (mostNumber + 1) es k falls (omega arith))
+
+    by-case : valid l ≡ true → (x : Arrived) → Arrives l n x → heardIn (x .ledger .ends) ≡ heardIn (l .ends) + heardMore (x .answer)
+    by-case v x (outside e) = omega arith
+    by-case v x (repeats lo hi e) = omega arith
+    by-case v x (full lo hi e f) = omega arith
+    by-case v x (new lo hi e f) = grown (valid-falls l v) lo hi e f
+
+    go : (v : Bool) → valid l ≡ v → heardIn (arrivedOf l n .ledger .ends) ≡ heardIn (l .ends) + heardMore (arrivedOf l n .answer)
+    go true v = by-case v (arrivedOf l n) (arrives l n v)
+    go false v = subst (λ (x : Arrived). heardIn (x .ledger .ends) ≡ heardIn (l .ends) + heardMore (x .answer)) (arrive-damaged l n v) (omega arith)
+
 -- ---- figures
 -- the answer that a figure's outcome tells
 abbrev pub figureIn : ℕ → Figure
@@ -86,10 +138,6 @@ figure-told l n = go (valid l)
 -- the answer that a run's outcome tells
 abbrev pub runIn : ℕ → RunAt
 runIn x = cond (eqb (answerPart x) 0) (RunAt.Run (firstPart x) (lastPart x)) (RunAt.Refused (answerPart x))
-
-valid-falls : (l : Ledger) → valid l ≡ true → falling (mostNumber + 1) (l .ends) ≡ true
-unfolding valid
-valid-falls l v = v
 
 -- what holds of 20, of 23 and of every run whose numbers are small holds of the answer to any question for a run
 of-runs : (P : RunAt → Type 0) → P (RunAt.Refused 20) → P (RunAt.Refused 23) → ((first last : ℕ) → first ≤ 100000000 → last ≤ 99999999 → P (RunAt.Run first last))

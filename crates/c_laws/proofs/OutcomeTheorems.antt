@@ -6,7 +6,7 @@ use mathlib.Core.List.{List, [], _∷_, _++_}
 use native.Mathlib.Omega.{arith}
 use lib.ListN.{length, getD, drop}
 use lib.Dec.{eqb, leb}
-use borrow.Author.Tests.{eqb-true, eqb-false, leb-true, leb-false}
+use borrow.Author.Tests.{eqb-true, eqb-false, ne-eqb, leb-true, leb-false}
 use Rattle.digits.specs.Packed.{goodField}
 use Rattle.digits.proofs.Bools.{and-left, and-right, no-false}
 use Rattle.frame.specs.Rows.{Row, must, firstFail}
@@ -19,6 +19,7 @@ use Rattle.frame.specs.declared.answer.Answer.the-variants.{Accepted, NoFrame, 
 use Rattle.frame.proofs.RowLaws.{row-holds, firstFail-append}
 use Rattle.frames.specs.Reading.{formatOf, isFormat, kindRows, rows, answerOf}
 use Rattle.frames.proofs.Trips.{number-named, answer-number}
+use Rattle.outcomes.specs.Lent.{isOf}
 use Rattle.outcomes.specs.Outcomes.{outcome, answerPart, formatPart, lengthPart, seqPart, readOutcome, pastOutcome}
 
 -- the four parts of an outcome are what it was made from
@@ -110,6 +111,21 @@ length-small n f long = go (eqb n 0) (leb n 5) refl refl
     go false true p q = omega arith
     go false false p q = long (λ u v. omega (arith, leb-false n 5 q))
 
+-- the format stands beside acceptance only
+format-beside : (n : ℕ) (f : Frame) (k : ℕ) → n ≤ 13 → (n ≡ 0 → f .format < 256) → 1 ≤ k → isOf k (named n f) ≡ eqb (formatPart (readOutcome (named n f))) k
+format-beside n f k few low one = go (eqb n 0) (leb n 5) refl
+  where
+    none : (l : ℕ) → false ≡ eqb (formatPart (outcome n 0 l 0)) k
+    none l = sym (ne-eqb (formatPart (outcome n 0 l 0)) k (λ e. omega arith))
+
+    go : (x y : Bool) → eqb n 0 ≡ x → let a = cond x (Accepted f) (cond y (NoFrame n) (Refused n (f .length))) in isOf k a ≡ eqb (formatPart (readOutcome a)) k
+    go true y p =
+        let small : f .format < 256 = low (eqb-true n 0 p) in
+        let is : f .format ≡ formatPart (outcome 0 (f .format) (f .length) (f .seq)) = omega arith in
+        ap (λ (m : ℕ). eqb m k) is
+    go false true p = none 0
+    go false false p = none (f .length)
+
 -- a reading's outcome has the answer's length for the bytes
 read-past : (a : Answer) → readOutcome a ≡ pastOutcome a (answerLength a)
 read-past (Accepted f) = refl
@@ -126,9 +142,9 @@ module _ (t : List ℕ) where
   after = kindRows (business (own t)) (format (own t)) (version (own t)) ++ bodyRows (formatOf (format (own t))) (body (own t))
 
   -- where none fails the format is one of the four
-  format-told : firstFail (rows t) ≡ 0 → format (own t) < 256
+  format-low : firstFail (rows t) ≡ 0 → format (own t) < 256
   unfolding rows
-  format-told z =
+  format-low z =
       let k = go (firstFail (outlineRows t)) (firstFail after) (eqb (firstFail (outlineRows t)) 0) refl (sym (firstFail-append (outlineRows t) after refl) ∙ z) in
       format-small (format (own t)) (and-right (eqb (business (own t)) 1) _ (row-holds 6 (eqb (business (own t)) 1 && isFormat (format (own t))) (drop 1 after) k))
     where
@@ -156,7 +172,7 @@ module _ (t : List ℕ) where
       → let x = pastOutcome (answerOf t) bytes in (answerIn x ≡ answerOf t) × (lengthPart x ≡ bytes)
   unfolding answerOf
   past-back bytes small same =
-      told (firstFail (rows t)) bytes frame rows-small small format-told
+      told (firstFail (rows t)) bytes frame rows-small small format-low
       (λ h. same (λ u v. h (omega (arith, u, answer-number t)) (omega (arith, v, answer-number t))))
 
   -- a reading's outcome tells the answer
@@ -174,3 +190,8 @@ module _ (t : List ℕ) where
 pub accepted-told : (t : List ℕ) (f : Frame) → answerOf t ≡ Accepted f
     → (formatPart (readOutcome (answerOf t)) ≡ f .format) × (lengthPart (readOutcome (answerOf t)) ≡ f .length) × (seqPart (readOutcome (answerOf t)) ≡ f .seq)
 accepted-told t f e = frame-in (readOutcome (answerOf t)) f (reading-back t ∙ e)
+
+-- a reading's outcome has a format exactly where a frame of the format is accepted, and so where lent memory is filled
+pub format-told : (t : List ℕ) (format : ℕ) → 1 ≤ format → isOf format (answerOf t) ≡ eqb (formatPart (readOutcome (answerOf t))) format
+unfolding answerOf
+format-told t k one = format-beside (firstFail (rows t)) (frame t) k (rows-small t) (format-low t) one

@@ -1,7 +1,7 @@
 -- The outcome of a writing tells the answer, for each of the four formats.
 use Prim.Native.Nat.{ℕ, _+_, _≤_, _<_}
 use mathlib.Core.Path.{_≡_, refl, _∙_}
-use mathlib.Core.Bool.{Bool, true, false, cond}
+use mathlib.Core.Bool.{Bool, true, false, cond, _&&_}
 use mathlib.Core.List.{List}
 use native.Mathlib.Omega.{arith}
 use lib.ListN.{length}
@@ -22,8 +22,10 @@ use Rattle.quotes.proofs.QuoteLaws.{quotes-lawful}
 use Rattle.prices.specs.Prices.{twelveCodec, ShapedPrices}
 use Rattle.prices.proofs.PriceLaws.{prices-lawful}
 use Rattle.halts.specs.Halts.{nineteenCodec, ShapedHalt}
+use Rattle.halts.specs.declared.Halt.{Halt}
 use Rattle.halts.proofs.HaltLaws.{halts-lawful}
 use Rattle.outcomes.specs.Outcomes.{answerPart, lengthPart, writeOutcome}
+use Rattle.c_halts.specs.Halts.{tellsHalt, haltOutcome}
 use Rattle.c_laws.proofs.OutcomeTheorems.{outcome-parts}
 
 -- a writing's outcome has its length, and answer 0
@@ -65,3 +67,14 @@ prices-written = writing-told twelveCodec ShapedPrices prices-lawful
 
 pub halt-written : WritingTold nineteenCodec ShapedHalt
 halt-written = writing-told nineteenCodec ShapedHalt halts-lawful
+
+-- and of a halt that four numbers tell, or do not
+pub halt-numbers-written : (ns : List ℕ) (h : Halt) → ShapedHalt h → (buf : List ℕ)
+    → let w = writeAnswer (tellsHalt ns && legal nineteenCodec h) (frameOf nineteenCodec h) buf in
+    (answerPart (haltOutcome ns h buf) ≡ writtenNumber w) × ((n : ℕ) → w ≡ Done n → (n ≤ 1024) × (lengthPart (haltOutcome ns h buf) ≡ n))
+halt-numbers-written ns h s buf = go (tellsHalt ns)
+  where
+    go : (t : Bool) → let w = writeAnswer (t && legal nineteenCodec h) (frameOf nineteenCodec h) buf in
+        (answerPart (writeOutcome w) ≡ writtenNumber w) × ((n : ℕ) → w ≡ Done n → (n ≤ 1024) × (lengthPart (writeOutcome w) ≡ n))
+    go true = halt-written h s buf
+    go false = (refl, λ n e. let z : _≡_ {A = ℕ} 0 1 = cc in absurd (omega arith))
