@@ -18,7 +18,7 @@ use Rattle.ledger.proofs.EndLaws.{falls-bound}
 use Rattle.ledger.proofs.SetLaws.{count-same}
 use Rattle.ledger.proofs.TrueLaws.{ends-heard}
 use Rattle.ledger.proofs.TurnLaws.{turn-falls, number-heard, fitted-falls, fitted-from}
-use Rattle.ledger.proofs.ArriveLaws.{arrive-damaged, Arrives, outside, repeats, full, new, arrives}
+use Rattle.ledger.proofs.ArriveLaws.{valid-is, arrive-damaged, Arrives, outside, repeats, full, new, arrives}
 use Rattle.outcomes.specs.Outcomes.{answerPart}
 use Rattle.c_ledger.specs.Outcomes.{arrivalOutcome, figureOutcome, runOutcome, firstPart, lastPart}
 
@@ -26,9 +26,9 @@ use Rattle.c_ledger.specs.Outcomes.{arrivalOutcome, figureOutcome, runOutcome, 
 abbrev pub abovePart : ℕ → ℕ
 abovePart x = x / 256
 
+-- the ends of a valid ledger fall
 valid-falls : (l : Ledger) → valid l ≡ true → falling (mostNumber + 1) (l .ends) ≡ true
-unfolding valid
-valid-falls l v = v
+valid-falls l v = valid-is (l .ends) ∙ v
 
 -- ---- arrivals
 -- how many numbers more are heard

@@ -57,6 +57,7 @@ module _ (t : List ℕ) where
       go true = answer-short t
       go false = omega arith
 
+  -- the answer, with the bytes that it moves past, tells both
   past-told : let x = pastOutcome (answerOf t) past in (answerIn x ≡ answerOf t) × (lengthPart x ≡ past)
   past-told =
       past-back t past (omega (arith, past-short))
