@@ -1,35 +1,22 @@
-// Prints the quotes of a file: code, time, number, trade, best bid and best ask, each as price x quantity, or - for none.
-#include <inttypes.h>
+// Prints the quotes of a file: code, number, trade, best bid and best ask, each as price x quantity; 0.0000 x 0 is none.
 #include <stdio.h>
 #include "trivsome.h"
-
-static void print_pair(const char *name, bool there, trivsome_pair pair)
-{
-    if (there) printf(" %s %" PRIu32 ".%04" PRIu32 " x %" PRIu32, name, pair.price / 10000, pair.price % 10000, pair.quantity);
-    else printf(" %s -", name);
-}
 
 int main(int argc, char **argv)
 {
     FILE *file = argc == 2 ? fopen(argv[1], "rb") : NULL;
     if (file == NULL) return perror(argc == 2 ? argv[1] : "usage: quotes FILE"), 1;
     static uint8_t line[65536]; // what waits for more bytes is shorter than a frame, so there is always room for more
-    size_t held = 0, at = 0, got;
+    size_t held = 0, at = 0, got, past;
     do {
         memmove(line, line + at, held -= at);
         held += got = fread(line + held, 1, sizeof line - held, file);
-        uint64_t move;
-        for (at = 0; trivsome_length(move = trivsome_move(line, held, at, got == 0)) != 0; at += trivsome_length(move)) {
+        for (at = 0; (past = trivsome_length(trivsome_move(line, held, at, got == 0))) != 0; at += past) {
             trivsome_quote q;
             if (trivsome_format(trivsome_read_quote(line, held, at, &q)) != TRIVSOME_QUOTE) continue;
-            unsigned day = (unsigned)(q.time / 1000000), fraction = (unsigned)(q.time % 1000000);
-            printf("%.6s %02u:%02u:%02u.%06u %" PRIu32, (char *)q.code, day / 10000, day / 100 % 100, day % 100, fraction, q.seq);
-            print_pair("trade", trivsome_has_trade(&q), q.trade);
-            print_pair("bid", trivsome_bids(&q) > 0, q.bids[0]);
-            print_pair("ask", trivsome_asks(&q) > 0, q.asks[0]);
-            putchar('\n');
+            printf("%.6s %u trade %.4f x %u bid %.4f x %u ask %.4f x %u\n", (char *)q.code, q.seq, q.trade.price / 1e4, q.trade.quantity,
+                q.bids[0].price / 1e4, q.bids[0].quantity, q.asks[0].price / 1e4, q.asks[0].quantity);
         }
     } while (got != 0);
-    if (ferror(file) || fflush(stdout) != 0) return perror(argv[1]), 1;
-    return 0;
+    return ferror(file) || fflush(stdout) != 0 ? perror(argv[1]), 1 : 0;
 }

@@ -22,14 +22,13 @@ spec.loader.exec_module(plain)
 
 
 def best(pairs):
-    """The first pair, or - for none."""
-    return f"{pairs[0][0] // 10000}.{pairs[0][0] % 10000:04} x {pairs[0][1]}" if pairs else "-"
+    """The first pair, or zeros for none."""
+    price, quantity = pairs[0] if pairs else (0, 0)
+    return f"{price // 10000}.{price % 10000:04} x {quantity}"
 
 
 def shown(m):
-    digits = f"{m['time']:012}"
-    time = f"{digits[:2]}:{digits[2:4]}:{digits[4:6]}.{digits[6:]}"
-    return f"{m['code'].decode('ascii')} {time} {m['seq']} trade {best(m['trade'])} bid {best(m['bids'])} ask {best(m['asks'])}\n"
+    return f"{m['code'].decode('ascii')} {m['seq']} trade {best(m['trade'])} bid {best(m['bids'])} ask {best(m['asks'])}\n"
 
 
 def quotes(line):

@@ -63,11 +63,6 @@ from-none b y (e ∷ es) h le lo =
     let below : e ≤ b - 1 = falls-head b e es h in
     rw (lt-leb y e (omega arith)) (omega (arith, from-none e y es (falls-tail b e es h) (omega arith) lo))
 
--- nor above the first
-pub from-above-first : (b y : ℕ) (es : List ℕ) → falling b es ≡ true → getD es 0 0 < y → endsFrom y es ≡ 0
-from-above-first b y [] h lt = refl
-from-above-first b y (e ∷ es) h lt = rw (lt-leb y e lt) (omega (arith, from-none e y es (falls-tail b e es h) (omega arith) (omega arith)))
-
 pub from-length : (y : ℕ) (es : List ℕ) → endsFrom y es ≤ length es
 from-length y [] = omega arith
 from-length y (e ∷ es) = go (leb y e) (from-length y es)

@@ -4,6 +4,7 @@ pub mod EndLaws
 pub mod SetLaws
 pub mod TrueLaws
 pub mod TurnLaws
+pub mod UsedLaws
 pub mod TakeLaws
 pub mod CallLaws
 pub mod ArriveLaws

@@ -7,7 +7,7 @@ use mathlib.Core.Path.{_≡_, refl, sym, ap, _∙_}
 use mathlib.Core.Bool.{Bool, true, false, cond, _&&_, and-true, and-false, and-assoc}
 use mathlib.Core.List.{List, [], _∷_, _++_, append-assoc, append-nil}
 use lib.ListN.{length, getD, take, drop, set, length-set, drop-of-length-le}
-use lib.Seq.{drop-cons, take-suc-set, drop-set-lt, take-set-le, take-take, getD-drop, getD-take, getD-set-same, drop-length}
+use lib.Seq.{drop-cons, take-add, take-suc-set, drop-set-lt, take-set-le, take-take, getD-drop, getD-take, getD-set-same, drop-length}
 use lib.Dec.{leb, eqb, eqb·suc-zero}
 use Rattle.ledger.specs.Ends.{falling, endsFrom, heardIn}
 
@@ -82,15 +82,15 @@ close-keeps es e i x same h h' =
     let so : getD e i 0 ∷ drop (i + 1) e ≡ getD es i 0 ∷ drop (i + 1) es = sym (at-drop e i h) ∙ same ∙ at-drop es i h' in
     drop-set-lt (i + 1) e i x (omega arith) ∙ cc
 
-pub close-ends : (es e : List ℕ) (at i : ℕ) → length es ≡ 129 → length e ≡ 129 → i ≡ 127
+pub close-ends : (es e : List ℕ) (at i : ℕ) → length es ≡ 129 → length e ≡ 129 → i ≤ 127 → drop i e ≡ drop i es → take (127 - i) (drop i es) ≡ drop (i + 2) es
     → take i e ++ drop (i + 2) es ≡ take at es ++ drop (at + 2) es
     → set (set e 127 0) 128 0 ≡ take at es ++ (drop (at + 2) es ++ (0 ∷ 0 ∷ []))
-close-ends es e at i n m q inv =
-    let none : drop 129 es ≡ [] = drop-of-length-le es {i = 129} (omega arith) in
-    let none' : drop 129 e ≡ [] = drop-of-length-le e {i = 129} (omega arith) in
-    let so : take 127 e ++ drop 129 es ≡ take at es ++ drop (at + 2) es = rw q at inv in
-    let front : take 127 e ≡ take at es ++ drop (at + 2) es = sym (rw none (append-nil (take 127 e))) ∙ so in
-    set-two e 127 0 0 (omega arith) ∙ rw (none', front) (append-assoc (take at es) (drop (at + 2) es) (0 ∷ 0 ∷ []))
+close-ends es e at i n m h same stay inv =
+    let none : drop 129 e ≡ [] = drop-of-length-le e {i = 129} (omega arith) in
+    let q : 127 ≡ i + (127 - i) = omega arith in
+    let front : take 127 e ≡ take at es ++ drop (at + 2) es =
+    ap (λ (k : ℕ). take k e) q ∙ take-add i (127 - i) e ∙ rw (same, stay) inv in
+    set-two e 127 0 0 (omega arith) ∙ rw (none, front) (append-assoc (take at es) (drop (at + 2) es) (0 ∷ 0 ∷ []))
 
 -- ends moved up by two places so far, and those left
 pub open-turn : (es e : List ℕ) (i j : ℕ) → length es ≡ 129 → length e ≡ 129 → i ≤ 127 → i ≡ j + 1

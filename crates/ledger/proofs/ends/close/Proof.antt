@@ -10,11 +10,11 @@ use Rattle.ledger.proofs.ends.close.Statement.{statement}
 use Rattle.ledger.proofs.ends.close.Tie as tie
 
 abbrev Inv-loop : tie.InvT-loop
-Inv-loop ends₀ at i₀ ends i =
-    (at ≤ i) × (i ≤ 127) × (length ends ≡ 129) × (drop i ends ≡ drop i ends₀) × (take i ends ++ drop (i + 2) ends₀ ≡ take at ends₀ ++ drop (at + 2) ends₀)
+Inv-loop ends₀ at to i₀ ends i =
+    (at ≤ i) × (i ≤ to) × (length ends ≡ 129) × (drop i ends ≡ drop i ends₀) × (take i ends ++ drop (i + 2) ends₀ ≡ take at ends₀ ++ drop (at + 2) ends₀)
 
 abbrev μ-loop : tie.MeasureT-loop
-μ-loop ends₀ at i₀ ends i = 127 - i
+μ-loop ends₀ at to i₀ ends i = to - i
 
 loop-holds : tie.Need-loop-holds Inv-loop μ-loop
 loop-holds c = (search needs, search needs, search needs, refl, refl)
@@ -64,7 +64,8 @@ returns : tie.Need-returns Inv-loop μ-loop
 returns c =
     let a = c .before .before .args in
     let l = c .before .loop in
-    close-ends (a .ends .now) (l .ends) (a .at) (l .i) (omega arith) (omega arith) (omega arith) (l .inv .4)
+    let q : l .i ≡ a .to = omega arith in
+    close-ends (a .ends .now) (l .ends) (a .at) (l .i) (omega arith) (omega arith) (omega arith) (l .inv .3) (rw q (c .before .before .pre .3)) (l .inv .4)
 
 pub close-spec : {M : Type 1} → statement M
 close-spec =

@@ -4,7 +4,7 @@ use native.Mathlib.Omega.{arith}
 use mathlib.Core.Path.{_≡_, refl}
 use mathlib.Core.Bool.{_&&_}
 use lib.Dec.{eqb}
-use lib.ListN.{drop}
+use lib.ListN.{length, drop}
 use Rattle.ledger.specs.Ends.{falling, endsFrom}
 use Rattle.ledger.proofs.LoopLaws.{falls-on, falls-ends, counts-on, counts-ends}
 use borrow.Author.Needs.{needs}
@@ -13,10 +13,10 @@ use Rattle.ledger.proofs.ends.look_over.Tie as tie
 
 abbrev Inv-loop : tie.InvT-loop
 Inv-loop bound n ends wrong₀ from₀ above₀ i₀ wrong from above i =
-    (i ≤ 129) × (wrong ≤ i) × (from ≤ i) × ((eqb wrong 0 && falling above (drop i ends)) ≡ falling bound ends) × (from + endsFrom n (drop i ends) ≡ endsFrom n ends)
+    (i ≤ length ends) × (wrong ≤ i) × (from ≤ i) × ((eqb wrong 0 && falling above (drop i ends)) ≡ falling bound ends) × (from + endsFrom n (drop i ends) ≡ endsFrom n ends)
 
 abbrev μ-loop : tie.MeasureT-loop
-μ-loop bound n ends wrong₀ from₀ above₀ i₀ wrong from above i = 129 - i
+μ-loop bound n ends wrong₀ from₀ above₀ i₀ wrong from above i = length ends - i
 
 loop-holds : tie.Need-loop-holds Inv-loop μ-loop
 loop-holds c = (search needs, search needs, search needs, refl, omega arith)

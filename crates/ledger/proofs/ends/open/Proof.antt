@@ -1,22 +1,22 @@
 -- `ends::open` meets its contract. The loop's invariant: the ends not moved stand as they stood, and those moved two places on.
 use Prim.Native.Nat.{_+_, _-_, _≤_}
 use native.Mathlib.Omega.{arith}
-use mathlib.Core.Path.{_≡_, refl}
-use lib.ListN.{length, take, drop, drop-of-length-le, length-set}
+use mathlib.Core.Path.{_≡_, refl, sym}
+use lib.ListN.{length, take, drop, length-set}
 use Rattle.ledger.proofs.LoopLaws.{open-turn, open-ends}
 use borrow.Author.Needs.{needs}
 use Rattle.ledger.proofs.ends.open.Statement.{statement}
 use Rattle.ledger.proofs.ends.open.Tie as tie
 
 abbrev Inv-loop : tie.InvT-loop
-Inv-loop ends₀ at last before i₀ ends i =
+Inv-loop ends₀ at to last before i₀ ends i =
     (at ≤ i) × (i ≤ 127) × (length ends ≡ 129) × (take (i + 2) ends ≡ take (i + 2) ends₀) × (drop (i + 2) ends ≡ take (127 - i) (drop i ends₀))
 
 abbrev μ-loop : tie.MeasureT-loop
-μ-loop ends₀ at last before i₀ ends i = i
+μ-loop ends₀ at to last before i₀ ends i = i
 
 loop-holds : tie.Need-loop-holds Inv-loop μ-loop
-loop-holds c = (search needs, search needs, search needs, refl, drop-of-length-le (c .args .ends .now) {i = 129} (omega arith))
+loop-holds c = (search needs, search needs, search needs, refl, sym (c .pre .3))
 
 sub-i : tie.Need-sub-i Inv-loop μ-loop
 sub-i c = search needs

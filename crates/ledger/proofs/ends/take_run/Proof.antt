@@ -24,6 +24,12 @@ mul-if3 c = search needs
 slice-read-if3 : tie.Need-slice-read-if3
 slice-read-if3 c = search needs
 
+sub-reach : tie.Need-sub-reach
+sub-reach c = search needs
+
+reach-requires : tie.Need-reach-requires
+reach-requires c κs = search needs
+
 sub-close : tie.Need-sub-close
 sub-close c = search needs
 
@@ -35,9 +41,9 @@ same-length c = search needs
 
 returns : tie.Need-returns
 returns c =
-    let s = c .before .before .before .before .before .before .before .before .before .before in
+    let s = c .before .before .before .before .before .before .before .before .before .before .before .before in
     let a = s .args in
-    taken-closes (a .at) (a .before) (a .last) (a .ends .now) (s .pre) (c .before .before .close .last .0) (c .before .before .before .before .before .before .before .before .if1 .taken) (c .before .before .before .before .before .before .if2 .taken) (c .before .before .before .before .if3 .taken) (c .before .before .close .ensures)
+    taken-closes (a .at) (a .before) (a .last) (a .ends .now) (s .pre) (c .before .before .close .last .0) (c .before .before .before .before .before .before .before .before .before .before .if1 .taken) (c .before .before .before .before .before .before .before .before .if2 .taken) (c .before .before .before .before .before .before .if3 .taken) (c .before .before .close .ensures)
 
 sub-ends : tie.Need-sub-ends
 sub-ends c = search needs
@@ -91,22 +97,25 @@ returns-4 c =
     ⊎-elim (λ w pos q. w .2 .left q) (λ w pos q. omega arith) (c .before .before .before .before .if1 .came) in
     taken-full (a .at) (a .before) (a .last) (a .ends .now) (s .pre) apart (c .before .before .if4 .left) (c .if5 .taken)
 
-open-requires : tie.Need-open-requires
-open-requires c κs =
+reach-requires-2 : tie.Need-reach-requires-2
+reach-requires-2 c κs =
     let s = c .before .before .before .before .before .before .before in
     let a = s .args in
-    (search needs, room-for-two (a .at) (a .before) (a .last) (a .ends .now) (s .pre) (c .before .if5 .left))
+    (search needs, s .pre .falls, room-for-two (a .at) (a .before) (a .last) (a .ends .now) (s .pre) (c .before .if5 .left))
+
+open-requires : tie.Need-open-requires
+open-requires c κs = search needs
 
 same-length-4 : tie.Need-same-length-4
 same-length-4 c = search needs
 
 returns-5 : tie.Need-returns-5
 returns-5 c =
-    let s = c .before .before .before .before .before .before .before .before .before .before in
+    let s = c .before .before .before .before .before .before .before .before .before .before .before .before in
     let a = s .args in
     let apart : 0 < a .at → getD (a .ends .now) (a .at - 1) 0 ≡ a .last → ⊥ =
-    ⊎-elim (λ w pos q. w .2 .left q) (λ w pos q. omega arith) (c .before .before .before .before .before .before .before .before .if1 .came) in
-    taken-opens (a .at) (a .before) (a .last) (a .ends .now) (s .pre) apart (c .before .before .before .before .before .before .if4 .left) (c .before .before .before .before .if5 .left) (c .before .before .«open» .last .0) (c .before .before .«open» .ensures)
+    ⊎-elim (λ w pos q. w .2 .left q) (λ w pos q. omega arith) (c .before .before .before .before .before .before .before .before .before .before .if1 .came) in
+    taken-opens (a .at) (a .before) (a .last) (a .ends .now) (s .pre) apart (c .before .before .before .before .before .before .before .before .if4 .left) (c .before .before .before .before .before .before .if5 .left) (c .before .before .«open» .last .0) (c .before .before .«open» .ensures)
 
 pub take-run-spec : {M : Type 1} → statement M
 take-run-spec =
@@ -117,6 +126,8 @@ take-run-spec =
     slice-read-if2
     mul-if3
     slice-read-if3
+    sub-reach
+    reach-requires
     sub-close
     close-requires
     same-length
@@ -134,6 +145,7 @@ take-run-spec =
     returns-3
     slice-read-if5
     returns-4
+    reach-requires-2
     open-requires
     same-length-4
     returns-5)
