@@ -1,18 +1,18 @@
 -- A slot read out of bytes: what each field's call tells of its bytes, and what the fields tell of the slot.
 use Prim.Native.Nat.{ℕ, suc, _+_, _*_, _^_, _≤_, _<_}
 use mathlib.Core.Path.{_≡_, refl, sym, ap, ap₂, _∙_}
-use mathlib.Core.Bool.{Bool, true, false, cond, _&&_}
+use mathlib.Core.Bool.{Bool, true, false, cond, _&&_, and-assoc}
 use mathlib.Core.List.{List, [], _∷_, _++_}
 use native.Mathlib.Omega.{arith}
 use lib.ListN.{length, getD, take, drop, length-drop, take-append-drop}
-use lib.Seq.{drop-cons, drop-drop, length-take-le}
+use lib.Seq.{drop-drop, take-add, take-at, drop-at, length-take-le}
 use Rattle.digits.specs.Packed.{good, goodField, two, valueFrom, value}
-use Rattle.digits.specs.Amounts.{asPrice, asQuantity, priceAt, quantityAt, priceOf, quantityOf}
+use Rattle.digits.specs.Amounts.{asPrice, asQuantity, priceAt, pairAt, priceOf, pairOf}
 use Rattle.digits.specs.Halves.{halvesAt, halvesOf, noHalves}
 use Rattle.digits.specs.declared.amounts.Price.{Price}
-use Rattle.digits.specs.declared.amounts.Quantity.{Quantity}
+use Rattle.digits.specs.declared.amounts.Pair.{Pair}
 use Rattle.digits.specs.declared.amounts.PriceField.{PriceField}
-use Rattle.digits.specs.declared.amounts.QuantityField.{QuantityField}
+use Rattle.digits.specs.declared.amounts.PairField.{PairField}
 use Rattle.digits.specs.declared.halves.Halves.{Halves}
 use Rattle.digits.proofs.Bools.{no-false, and-both}
 use Rattle.digits.proofs.Places.{inside}
@@ -47,17 +47,36 @@ module _ (s : List ℕ) (at : ℕ) where
       go true k = (refl, cc)
       go false k = (cc, cc)
 
-  pub quantity-bad : at + 4 ≤ length s → quantityAt s at ≡ QuantityField.Bad → goodField 8 (part 4 s at) ≡ false
-  quantity-bad h e = go (goodField 8 (part 4 s at)) (sym (inside 4 at s (quantityOf (part 4 s at)) QuantityField.Bad h) ∙ e)
+-- a price and a quantity behind it, at its own place
+module _ (s : List ℕ) (at q : ℕ) (e : at + 5 ≡ q) (h : at + 9 ≤ length s) where
+  abbrev pair-good : Bool
+  pair-good = goodField 9 (part 5 s at) && goodField 8 (part 4 s q)
+
+  abbrev pair-yes : Pair
+  pair-yes = record { price = asPrice (value (part 5 s at)); quantity = asQuantity (value (part 4 s q)) }
+
+  pair-parts : part 9 s at ≡ part 5 s at ++ part 4 s q
+  pair-parts = take-add 5 4 (drop at s) ∙ ap (λ (l : List ℕ). part 5 s at ++ take 4 l) (drop-drop 5 at s ∙ ap (λ (k : ℕ). drop k s) e)
+
+  pair-in : pairAt s at ≡ cond pair-good (PairField.Is pair-yes) PairField.Bad
+  pair-in =
+      let l : length (part 5 s at) ≡ 5 = length-part 5 s at (omega arith) in
+      inside 9 at s (pairOf (part 9 s at)) PairField.Bad h
+      ∙ ap pairOf pair-parts
+      ∙ ap₂ (λ (x y : List ℕ). cond (goodField 9 x && goodField 8 y) (PairField.Is (record { price = asPrice (value x); quantity = asQuantity (value y) })) PairField.Bad)
+      (take-at (part 5 s at) (part 4 s q) 5 l) (drop-at (part 5 s at) (part 4 s q) 5 l)
+
+  pub pair-bad : pairAt s at ≡ PairField.Bad → pair-good ≡ false
+  pair-bad k = go pair-good (sym pair-in ∙ k)
     where
-      go : (t : Bool) → cond t (QuantityField.Is (asQuantity (value (part 4 s at)))) QuantityField.Bad ≡ QuantityField.Bad → t ≡ false
+      go : (t : Bool) → cond t (PairField.Is pair-yes) PairField.Bad ≡ PairField.Bad → t ≡ false
       go true k = cc
       go false k = refl
 
-  pub quantity-is : (p : Quantity) → at + 4 ≤ length s → quantityAt s at ≡ QuantityField.Is p → (goodField 8 (part 4 s at) ≡ true) × (asQuantity (value (part 4 s at)) ≡ p)
-  quantity-is p h e = go (goodField 8 (part 4 s at)) (sym (inside 4 at s (quantityOf (part 4 s at)) QuantityField.Bad h) ∙ e)
+  pub pair-is : (p : Pair) → pairAt s at ≡ PairField.Is p → (pair-good ≡ true) × (pair-yes ≡ p)
+  pair-is p k = go pair-good (sym pair-in ∙ k)
     where
-      go : (t : Bool) → cond t (QuantityField.Is (asQuantity (value (part 4 s at)))) QuantityField.Bad ≡ QuantityField.Is p → (t ≡ true) × (asQuantity (value (part 4 s at)) ≡ p)
+      go : (t : Bool) → cond t (PairField.Is pair-yes) PairField.Bad ≡ PairField.Is p → (t ≡ true) × (pair-yes ≡ p)
       go true k = (refl, cc)
       go false k = (cc, cc)
 
@@ -104,9 +123,13 @@ module _ (s : List ℕ) (at : ℕ) where
   at30 = on 4 26 30 at26 (omega arith)
 
   pub slot-good : goodCells slotCells (drop at s)
-      ≡ (goodField 9 (part 5 s (at + 6)) && (goodField 9 (part 5 s (at + 11)) && (goodField 9 (part 5 s (at + 16)) && (goodField 9 (part 5 s (at + 21))
-      && (goodField 8 (part 4 s (at + 26)) && (goodField 12 (part 6 s (at + 30)) && true))))))
-  slot-good = good-raws 6 amountCells (drop at s) ∙ rw (at30, at26, at21, at16, at11, at6)
+      ≡ (goodField 9 (part 5 s (at + 6)) && (goodField 9 (part 5 s (at + 11)) && (goodField 9 (part 5 s (at + 16))
+      && ((goodField 9 (part 5 s (at + 21)) && goodField 8 (part 4 s (at + 26))) && (goodField 12 (part 6 s (at + 30)) && true)))))
+  slot-good =
+      let pair = and-assoc (goodField 9 (part 5 s (at + 21))) (goodField 8 (part 4 s (at + 26))) (goodField 12 (part 6 s (at + 30)) && true) in
+      good-raws 6 amountCells (drop at s)
+      ∙ rw (at30, at26, at21, at16, at11, at6)
+      (ap (λ (t : Bool). goodField 9 (part 5 s (at + 6)) && (goodField 9 (part 5 s (at + 11)) && (goodField 9 (part 5 s (at + 16)) && t))) (sym pair))
 
   pub slot-values : at + 36 ≤ length s → slotOf (decode slotCells (drop at s))
       ≡ record {
@@ -129,17 +152,17 @@ pub slot-bad : (s : List ℕ) (at : ℕ) (x : Slot) {r : Bool} → r ≡ false �
 slot-bad s at x p q = (p ∙ sym q, λ t. absurd (no-false (sym p ∙ t)))
 
 -- ---- good fields make the slot
-module _ (s : List ℕ) (at : ℕ) (l : at + 36 ≤ length s) {code : List ℕ} {o h w t : Price} {q : Quantity} {m : ℕ} where
+module _ (s : List ℕ) (at : ℕ) (l : at + 36 ≤ length s) {code : List ℕ} {o h w : Price} {p : Pair} {m : ℕ} where
   pub slot-is : code ≡ part 6 s at
       → (goodField 9 (part 5 s (at + 6)) ≡ true) × (asPrice (value (part 5 s (at + 6))) ≡ o)
       → (goodField 9 (part 5 s (at + 11)) ≡ true) × (asPrice (value (part 5 s (at + 11))) ≡ h)
       → (goodField 9 (part 5 s (at + 16)) ≡ true) × (asPrice (value (part 5 s (at + 16))) ≡ w)
-      → (goodField 9 (part 5 s (at + 21)) ≡ true) × (asPrice (value (part 5 s (at + 21))) ≡ t)
-      → (goodField 8 (part 4 s (at + 26)) ≡ true) × (asQuantity (value (part 4 s (at + 26))) ≡ q)
+      → ((goodField 9 (part 5 s (at + 21)) && goodField 8 (part 4 s (at + 26))) ≡ true)
+      × (record { price = asPrice (value (part 5 s (at + 21))); quantity = asQuantity (value (part 4 s (at + 26))) } ≡ p)
       → goodField 12 (part 6 s (at + 30)) ≡ true → m ≡ value (part 6 s (at + 30))
       → (true ≡ goodCells slotCells (drop at s))
-      × (true ≡ true → record { code = code; opening = o; highest = h; lowest = w; last = t; total = q; time = m } ≡ slotOf (decode slotCells (drop at s)))
-  slot-is e1 e2 e3 e4 e5 e6 g e7 = (
-    sym (slot-good s at ∙ and-both (e2 .0) (and-both (e3 .0) (and-both (e4 .0) (and-both (e5 .0) (and-both (e6 .0) (and-both g refl)))))),
-    λ u. rw (e1, ← e2 .1, ← e3 .1, ← e4 .1, ← e5 .1, ← e6 .1, e7) (sym (slot-values s at l)),
+      × (true ≡ true → record { code = code; opening = o; highest = h; lowest = w; last = p .price; total = p .quantity; time = m } ≡ slotOf (decode slotCells (drop at s)))
+  slot-is e1 e2 e3 e4 e5 g e6 = (
+    sym (slot-good s at ∙ and-both (e2 .0) (and-both (e3 .0) (and-both (e4 .0) (and-both (e5 .0) (and-both g refl))))),
+    λ u. rw (e1, ← e2 .1, ← e3 .1, ← e4 .1, ← e5 .1, e6) (sym (slot-values s at l)),
   )

@@ -6,10 +6,11 @@ ghost use lib.ListN.{length, take, drop, replicate};
 ghost use Rattle.frame.specs.Cells.{goodCells, decode};
 ghost use Rattle.prices.specs.Prices.{slotCells, slotsCells, slotOf, slotsOf, noSlot};
 use crate::Slot;
+use digits::amounts::Pair;
+use digits::amounts::PairField;
 use digits::amounts::Price;
 use digits::amounts::PriceField;
 use digits::amounts::Quantity;
-use digits::amounts::QuantityField;
 use digits::halves::six_at;
 use frame::rules::code_at;
 
@@ -74,15 +75,14 @@ fn slot_at(body: &[u8], at: usize) -> SlotField
     let PriceField::Is(lowest) = Price::from_digits(body, at + 16) else {
         return bad_slot();
     };
-    let PriceField::Is(last) = Price::from_digits(body, at + 21) else {
-        return bad_slot();
-    };
-    let QuantityField::Is(total) = Quantity::from_digits(body, at + 26) else {
+    let PairField::Is(pair) = Pair::from_digits(body, at + 21) else {
         return bad_slot();
     };
     let h = six_at(body, at + 30);
     if h.good {
         let code = code_at(body, at);
+        let last = pair.price;
+        let total = pair.quantity;
         let time = (h.first as u64) * ABOVE_EIGHT + (h.last as u64);
         let slot = Slot {
             code,

@@ -1,7 +1,7 @@
 -- `slots::slot_at` meets its contract.
 use Prim.Native.Nat.{ℕ, _+_, _*_}
 use mathlib.Core.Path.{_≡_, sym, ap, _∙_}
-use mathlib.Core.Bool.{true}
+use mathlib.Core.Bool.{true, _&&_}
 use mathlib.Core.List.{List}
 use native.Mathlib.Omega.{arith}
 use borrow.Author.Needs.{needs}
@@ -9,7 +9,7 @@ use Rattle.digits.specs.Packed.{goodField, value}
 use Rattle.digits.specs.Amounts.{asPrice, asQuantity}
 use Rattle.digits.specs.declared.halves.Halves.{Halves}
 use Rattle.prices.proofs.AndLaws.{later, none}
-use Rattle.prices.proofs.SlotReads.{part, price-bad, price-is, quantity-bad, quantity-is, time-good, time-value, slot-good, slot-bad, slot-is}
+use Rattle.prices.proofs.SlotReads.{part, price-bad, price-is, pair-bad, pair-is, time-good, time-value, slot-good, slot-bad, slot-is}
 use Rattle.prices.proofs.slots.slot_at.Statement.{statement}
 use Rattle.prices.proofs.slots.slot_at.Tie as tie
 use Rattle.frame.proofs.RuleLaws.{code-in}
@@ -36,12 +36,6 @@ b4 c = c .before .before .before .before
 abbrev s4 : tie.After-known-told4 → tie.Start
 s4 c = s3 (b4 c)
 
-abbrev b5 : tie.After-known-told5 → tie.After-known-told4
-b5 c = c .before .before .before .before
-
-abbrev s5 : tie.After-known-told5 → tie.Start
-s5 c = s4 (b5 c)
-
 -- the bytes of a field
 abbrev field : ℕ → ℕ → tie.Start → List ℕ
 field n k o = part n (o .args .body .now) (o .args .at + k)
@@ -65,17 +59,12 @@ is-lowest c =
     price-is (o .args .body .now) (o .args .at + 16) (c .before .lowest .given .0 .0) (omega (arith, o .pre))
     (sym (c .before .before .before .from-digits3 .ensures) ∙ c .before .lowest .given .1)
 
-is-last : (c : tie.After-known-told4) → (goodField 9 (field 5 21 (s4 c)) ≡ true) × (asPrice (value (field 5 21 (s4 c))) ≡ c .before .last .given .0 .0)
-is-last c =
+is-pair : (c : tie.After-known-told4) → ((goodField 9 (field 5 21 (s4 c)) && goodField 8 (field 4 26 (s4 c))) ≡ true)
+    × (record { price = asPrice (value (field 5 21 (s4 c))); quantity = asQuantity (value (field 4 26 (s4 c))) } ≡ c .before .pair .given .0 .0)
+is-pair c =
     let o = s4 c in
-    price-is (o .args .body .now) (o .args .at + 21) (c .before .last .given .0 .0) (omega (arith, o .pre))
-    (sym (c .before .before .before .from-digits4 .ensures) ∙ c .before .last .given .1)
-
-is-total : (c : tie.After-known-told5) → (goodField 8 (field 4 26 (s5 c)) ≡ true) × (asQuantity (value (field 4 26 (s5 c))) ≡ c .before .total .given .0 .0)
-is-total c =
-    let o = s5 c in
-    quantity-is (o .args .body .now) (o .args .at + 26) (c .before .total .given .0 .0) (omega (arith, o .pre))
-    (sym (c .before .before .before .from-digits5 .ensures) ∙ c .before .total .given .1)
+    pair-is (o .args .body .now) (o .args .at + 21) (o .args .at + 26) (omega arith) (omega (arith, o .pre)) (c .before .pair .given .0 .0)
+    (sym (c .before .before .before .from-digits4 .ensures) ∙ c .before .pair .given .1)
 
 add-from-digits : tie.Need-add-from-digits
 add-from-digits c = search needs
@@ -151,8 +140,8 @@ add-from-digits-4 c = search needs
 from-digits-requires-4 : tie.Need-from-digits-requires-4
 from-digits-requires-4 c κs = search needs
 
-enum-known-last : tie.Need-enum-known-last
-enum-known-last c = search needs
+enum-known-pair : tie.Need-enum-known-pair
+enum-known-pair c = search needs
 
 enum-told-4 : tie.Need-enum-told-4
 enum-told-4 c = search needs
@@ -166,33 +155,10 @@ returns-4 c =
     let o = s3 t in
     slot-bad (o .args .body .now) (o .args .at) (c .bad-slot4 .result .slot) (c .bad-slot4 .ensures)
     (slot-good (o .args .body .now) (o .args .at) ∙ later (is-opening (b2 (b3 t)) .0) (later (is-highest (b3 t) .0) (later (is-lowest t .0) (none _
-    (price-bad (o .args .body .now) (o .args .at + 21) (omega (arith, o .pre)) (sym (c .before .before .before .from-digits4 .ensures) ∙ c .before .enum-told4 .given .1))))))
-
-add-from-digits-5 : tie.Need-add-from-digits-5
-add-from-digits-5 c = search needs
-
-from-digits-requires-5 : tie.Need-from-digits-requires-5
-from-digits-requires-5 c κs = search needs
-
-enum-known-total : tie.Need-enum-known-total
-enum-known-total c = search needs
-
-enum-told-5 : tie.Need-enum-told-5
-enum-told-5 c = search needs
-
-bad-slot-requires-5 : tie.Need-bad-slot-requires-5
-bad-slot-requires-5 c κs = search needs
-
-returns-5 : tie.Need-returns-5
-returns-5 c =
-    let t = c .before .before .before .before in
-    let o = s4 t in
-    slot-bad (o .args .body .now) (o .args .at) (c .bad-slot5 .result .slot) (c .bad-slot5 .ensures)
-    (slot-good (o .args .body .now) (o .args .at) ∙ later (is-opening (b2 (b3 (b4 t))) .0) (later (is-highest (b3 (b4 t)) .0) (later (is-lowest (b4 t) .0) (later (is-last t .0) (none _
-    (quantity-bad (o .args .body .now) (o .args .at + 26) (omega (arith, o .pre)) (sym (c .before .before .before .from-digits5 .ensures) ∙ c .before .enum-told5 .given .1)))))))
+    (pair-bad (o .args .body .now) (o .args .at + 21) (o .args .at + 26) (omega arith) (omega (arith, o .pre)) (sym (c .before .before .before .from-digits4 .ensures) ∙ c .before .enum-told4 .given .1))))))
 
 add-six-at : tie.Need-add-six-at
-add-six-at c = omega (arith, s5 c)
+add-six-at c = omega (arith, s4 c)
 
 six-at-requires : tie.Need-six-at-requires
 six-at-requires c κs = search needs
@@ -212,26 +178,27 @@ cast-time-2 c = search needs
 add-time : tie.Need-add-time
 add-time c = search needs
 
-bad-slot-requires-6 : tie.Need-bad-slot-requires-6
-bad-slot-requires-6 c κs = search needs
+bad-slot-requires-5 : tie.Need-bad-slot-requires-5
+bad-slot-requires-5 c κs = search needs
+
+returns-5 : tie.Need-returns-5
+returns-5 c =
+    let k = c .before .before in
+    let t = k .before .before .before .before .before in
+    let o = s4 t in
+    let h = k .before .before .before .before .six-at in
+    slot-is (o .args .body .now) (o .args .at) (o .pre) (k .before .before .code-at .ensures ∙ code-in (o .args .body .now) (o .args .at) (omega (arith, o .pre)))
+    (is-opening (b2 (b3 (b4 t)))) (is-highest (b3 (b4 t))) (is-lowest (b4 t)) (is-pair t)
+    (sym (time-good (o .args .body .now) (o .args .at + 30) (omega (arith, o .pre))) ∙ sym (ap (λ (x : Halves). x .good) (h .ensures)) ∙ k .before .before .before .if1 .taken)
+    (ap (λ (x : Halves). x .first * 100000000 + x .last) (h .ensures) ∙ time-value (o .args .body .now) (o .args .at + 30) (omega (arith, o .pre)))
 
 returns-6 : tie.Need-returns-6
 returns-6 c =
-    let t = c .before .before .before .before .before in
-    let o = s5 t in
-    let h = c .before .before .before .before .six-at in
-    slot-is (o .args .body .now) (o .args .at) (o .pre) (c .before .before .code-at .ensures ∙ code-in (o .args .body .now) (o .args .at) (omega (arith, o .pre)))
-    (is-opening (b2 (b3 (b4 (b5 t))))) (is-highest (b3 (b4 (b5 t)))) (is-lowest (b4 (b5 t))) (is-last (b5 t)) (is-total t)
-    (sym (time-good (o .args .body .now) (o .args .at + 30) (omega (arith, o .pre))) ∙ sym (ap (λ (x : Halves). x .good) (h .ensures)) ∙ c .before .before .before .if1 .taken)
-    (ap (λ (x : Halves). x .first * 100000000 + x .last) (h .ensures) ∙ time-value (o .args .body .now) (o .args .at + 30) (omega (arith, o .pre)))
-
-returns-7 : tie.Need-returns-7
-returns-7 c =
     let t = c .before .before .before in
-    let o = s5 t in
-    slot-bad (o .args .body .now) (o .args .at) (c .bad-slot6 .result .slot) (c .bad-slot6 .ensures)
-    (slot-good (o .args .body .now) (o .args .at) ∙ later (is-opening (b2 (b3 (b4 (b5 t)))) .0) (later (is-highest (b3 (b4 (b5 t))) .0) (later (is-lowest (b4 (b5 t)) .0) (later (is-last (b5 t) .0) (later (is-total t .0) (none _
-    (sym (time-good (o .args .body .now) (o .args .at + 30) (omega (arith, o .pre))) ∙ sym (ap (λ (h : Halves). h .good) (c .before .before .six-at .ensures)) ∙ c .before .if1 .left)))))))
+    let o = s4 t in
+    slot-bad (o .args .body .now) (o .args .at) (c .bad-slot5 .result .slot) (c .bad-slot5 .ensures)
+    (slot-good (o .args .body .now) (o .args .at) ∙ later (is-opening (b2 (b3 (b4 t))) .0) (later (is-highest (b3 (b4 t)) .0) (later (is-lowest (b4 t) .0) (later (is-pair t .0) (none _
+    (sym (time-good (o .args .body .now) (o .args .at + 30) (omega (arith, o .pre))) ∙ sym (ap (λ (h : Halves). h .good) (c .before .before .six-at .ensures)) ∙ c .before .if1 .left))))))
 
 pub slot-at-spec : {M : Type 1} → statement M
 slot-at-spec =
@@ -257,16 +224,10 @@ slot-at-spec =
     returns-3
     add-from-digits-4
     from-digits-requires-4
-    enum-known-last
+    enum-known-pair
     enum-told-4
     bad-slot-requires-4
     returns-4
-    add-from-digits-5
-    from-digits-requires-5
-    enum-known-total
-    enum-told-5
-    bad-slot-requires-5
-    returns-5
     add-six-at
     six-at-requires
     code-at-requires
@@ -274,6 +235,6 @@ slot-at-spec =
     mul-time
     cast-time-2
     add-time
-    bad-slot-requires-6
-    returns-6
-    returns-7)
+    bad-slot-requires-5
+    returns-5
+    returns-6)
