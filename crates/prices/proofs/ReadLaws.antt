@@ -19,11 +19,11 @@ use Rattle.frame.specs.declared.answer.Answer.{Answer}
 use Rattle.frame.specs.declared.answer.Frame.{Frame}
 use Rattle.prices.specs.declared.Slot.{Slot}
 use Rattle.prices.specs.declared.PricesReading.{PricesReading}
-use Rattle.prices.specs.Prices.{slotsValues, slotsPass, slotTimed, slotRuled, twelve, twelveCells, twelveRuled, pricesOf, noPrices, refusal, acceptance, pricesReading}
+use Rattle.prices.specs.Prices.{slotsPass, slotTimed, slotRuled, twelve, twelveCells, twelveRuled, pricesOf, noPrices, refusal, acceptance, pricesReading}
 use Rattle.frame.proofs.BodyRowLaws.{fails-range, fails-digits, fails-times, fails-fields, fails-none}
-use Rattle.prices.proofs.PriceLaws.{slotsValues-of, size-slotsCells, length-values}
+use Rattle.prices.proofs.PriceLaws.{size-slotsCells}
 use Rattle.prices.proofs.AndLaws.{none, later}
-use Rattle.prices.proofs.SlotsRead.{goodFrom, slotsFrom}
+use Rattle.prices.proofs.SlotsRead.{goodFrom, slotsFrom, passFrom}
 
 -- the frame of a body
 abbrev frame : ℕ → List ℕ → Frame
@@ -98,7 +98,7 @@ module _ (b : List ℕ) where
         pub bad-slots : goodFrom b 10 1 ≡ false → firstFail (bodyRows twelve b) ≡ 11
         bad-slots e = digits-bad (later good-head e)
 
-        module _ (g : goodFrom b 10 1 ≡ true) (ss : List Slot) (e : ss ≡ slotsFrom b 10 1) where
+        module _ (g : goodFrom b 10 1 ≡ true) where
           abbrev n : ℕ
           n = head / 16 * 10 + head % 16
 
@@ -108,41 +108,38 @@ module _ (b : List ℕ) where
           count-is : getD (numbers b) 0 0 ≡ n
           count-is = ap value first-byte ∙ omega arith
 
-          slots-are : slotsValues ss ≡ drop 1 (numbers b)
-          slots-are = ap slotsValues e ∙ slotsValues-of 10 (drop 1 (numbers b)) (length-values b)
+          pass-is : (p : ℕ → List ℕ → Bool) → slotsPass p 10 (getD (numbers b) 0 0) (drop 1 (numbers b)) ≡ passFrom b p 10 n 1
+          pass-is p = ap (λ (k : ℕ). slotsPass p 10 k (drop 1 (numbers b))) count-is
 
-          pass-is : (p : ℕ → List ℕ → Bool) → slotsPass p 10 (getD (numbers b) 0 0) (drop 1 (numbers b)) ≡ slotsPass p 10 n (slotsValues ss)
-          pass-is p = ap₂ (slotsPass p 10) count-is (sym slots-are)
-
-          ruled-is : twelveRuled (numbers b) ≡ ((leb 1 n && leb n 10) && slotsPass slotRuled 10 n (slotsValues ss))
+          ruled-is : twelveRuled (numbers b) ≡ ((leb 1 n && leb n 10) && passFrom b slotRuled 10 n 1)
           ruled-is = ap₂ (λ (k : ℕ) (t : Bool). (leb 1 k && leb k 10) && t) count-is (pass-is slotRuled)
 
-          pub wrong-times : slotsPass slotTimed 10 n (slotsValues ss) ≡ false → firstFail (bodyRows twelve b) ≡ 12
+          pub wrong-times : passFrom b slotTimed 10 n 1 ≡ false → firstFail (bodyRows twelve b) ≡ 12
           wrong-times t = fails-times twelve b in-range refl sized good-all (pass-is slotTimed ∙ t)
 
-          module _ (t : slotsPass slotTimed 10 n (slotsValues ss) ≡ true) where
-            fields-bad : ((leb 1 n && leb n 10) && slotsPass slotRuled 10 n (slotsValues ss)) ≡ false → firstFail (bodyRows twelve b) ≡ 13
+          module _ (t : passFrom b slotTimed 10 n 1 ≡ true) where
+            fields-bad : ((leb 1 n && leb n 10) && passFrom b slotRuled 10 n 1) ≡ false → firstFail (bodyRows twelve b) ≡ 13
             fields-bad f = fails-fields twelve b in-range refl sized good-all (pass-is slotTimed ∙ t) (ruled-is ∙ f)
 
             pub no-count : n < 1 → firstFail (bodyRows twelve b) ≡ 13
-            no-count h = fields-bad (none (slotsPass slotRuled 10 n (slotsValues ss)) (none (leb n 10) (lt-leb 1 n h)))
+            no-count h = fields-bad (none (passFrom b slotRuled 10 n 1) (none (leb n 10) (lt-leb 1 n h)))
 
             module _ (one : 1 ≤ n) where
               pub high-count : 10 < n → firstFail (bodyRows twelve b) ≡ 13
-              high-count h = fields-bad (none (slotsPass slotRuled 10 n (slotsValues ss)) (later (le-leb 1 n one) (lt-leb n 10 h)))
+              high-count h = fields-bad (none (passFrom b slotRuled 10 n 1) (later (le-leb 1 n one) (lt-leb n 10 h)))
 
               module _ (ten : n ≤ 10) where
-                pub wrong-slots : slotsPass slotRuled 10 n (slotsValues ss) ≡ false → firstFail (bodyRows twelve b) ≡ 13
+                pub wrong-slots : passFrom b slotRuled 10 n 1 ≡ false → firstFail (bodyRows twelve b) ≡ 13
                 wrong-slots f = fields-bad (later (and-both (le-leb 1 n one) (le-leb n 10 ten)) f)
 
-                passed : slotsPass slotRuled 10 n (slotsValues ss) ≡ true → firstFail (bodyRows twelve b) ≡ 0
+                passed : passFrom b slotRuled 10 n 1 ≡ true → firstFail (bodyRows twelve b) ≡ 0
                 passed f =
                     fails-none twelve b in-range refl sized good-all (pass-is slotTimed ∙ t)
                     (ruled-is ∙ and-both (and-both (le-leb 1 n one) (le-leb n 10 ten)) f)
 
-                pub accepted : (seq : ℕ) → slotsPass slotRuled 10 n (slotsValues ss) ≡ true
+                pub accepted : (seq : ℕ) (ss : List Slot) → ss ≡ slotsFrom b 10 1 → passFrom b slotRuled 10 n 1 ≡ true
                     → acceptance seq n ss ≡ pricesReading seq b
-                accepted seq f =
+                accepted seq ss e f =
                     ap₂ (λ (len k : ℕ). record { answer = Answer.Accepted (record { format = 12; seq = seq; length = len }); prices = record { seq = seq; count = k; slots = ss } })
                     (sym (ap (λ (k : ℕ). 13 + k) l)) (sym count-is)
                     ∙ ap (λ (x : List Slot). record { answer = Answer.Accepted (frame seq b); prices = record { seq = seq; count = getD (numbers b) 0 0; slots = x } }) e

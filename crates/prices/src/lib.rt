@@ -98,14 +98,13 @@ pub fn read(body: &[u8], seq: u32) -> PricesReading
     if low > 9 {
         return refused(11, FRAME);
     }
-    let f = slots::slots_in(body);
+    let count = high * 10 + low;
+    let n = count as usize;
+    let f = slots::slots_in(body, n);
     if !f.good {
         return refused(11, FRAME);
     }
-    let slots = f.slots;
-    let count = high * 10 + low;
-    let n = count as usize;
-    if !rules::timed(slots, n) {
+    if !f.timed {
         return refused(12, FRAME);
     }
     if n < 1 {
@@ -114,9 +113,10 @@ pub fn read(body: &[u8], seq: u32) -> PricesReading
     if n > 10 {
         return refused(13, FRAME);
     }
-    if !rules::ruled(slots, n) {
+    if !f.ruled {
         return refused(13, FRAME);
     }
+    let slots = f.slots;
     accepted(seq, count, slots)
 }
 

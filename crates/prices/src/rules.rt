@@ -22,14 +22,14 @@ fn time_of_day(t: u64) -> bool
 }
 
 // One less, or 0.
-fn less_one(n: usize) -> usize
+pub(crate) fn less_one(n: usize) -> usize
     ensures { λ r. ⌜ r ≡ n - 1 ⌝ }
 {
     if n > 0 { n - 1 } else { 0 }
 }
 
 // The time of a slot where n counted ones are still to come.
-fn time_right(t: u64, n: usize) -> bool
+pub(crate) fn time_right(t: u64, n: usize) -> bool
     ensures { λ r. ⌜ r ≡ (timeOfDay 6 t || (leb 1 n && eqb t (nines 6))) ⌝ }
 {
     if time_of_day(t) {
@@ -91,7 +91,7 @@ fn all_zero(amounts: [u64; 6]) -> bool
 }
 
 // The fields of a slot where n counted ones are still to come.
-fn slot_right(s: Slot, n: usize) -> bool
+pub(crate) fn slot_right(s: Slot, n: usize) -> bool
     ensures { λ r. ⌜ r ≡ slotRuled n (slotValues s) ⌝ }
 {
     let code = s.code;

@@ -1,11 +1,14 @@
 // Slots read out of a body.
 ghost use Prim.Native.Nat.{_+_, _≤_};
 ghost use mathlib.Core.Path.{_≡_};
-ghost use mathlib.Core.Bool.{true, false};
+ghost use mathlib.Core.Bool.{true, false, _&&_};
 ghost use lib.ListN.{length, take, drop, replicate};
 ghost use Rattle.frame.specs.Cells.{goodCells, decode};
-ghost use Rattle.prices.specs.Prices.{slotCells, slotsCells, slotOf, slotsOf, noSlot};
+ghost use Rattle.prices.specs.Prices.{slotCells, slotsCells, slotOf, slotsOf, slotsPass, slotTimed, slotRuled, noSlot};
 use crate::Slot;
+use crate::rules::less_one;
+use crate::rules::slot_right;
+use crate::rules::time_right;
 use digits::amounts::Pair;
 use digits::amounts::PairField;
 use digits::amounts::Price;
@@ -26,9 +29,11 @@ pub(crate) struct SlotField {
     pub slot: Slot,
 }
 
-// All ten.
+// All ten, and whether rows 12 and 13 hold of them; where a digit is bad only that is said.
 pub(crate) struct SlotsField {
     pub good: bool,
+    pub timed: bool,
+    pub ruled: bool,
     pub slots: [Slot; 10],
 }
 
@@ -99,23 +104,47 @@ fn slot_at(body: &[u8], at: usize) -> SlotField
     }
 }
 
-// The ten slots after the count, up to the first with a bad digit.
-pub(crate) fn slots_in(body: &[u8]) -> SlotsField
-    requires { ⌜ length (now body) ≡ 361 ⌝ }
-    ensures { λ r. ⌜ (r .good ≡ goodCells (slotsCells 10) (drop 1 (now (body .entry)))) × (r .good ≡ true → r .slots ≡ slotsOf 10 (decode (slotsCells 10) (drop 1 (now (body .entry))))) ⌝ }
+// Two tests that both hold.
+fn both(a: bool, b: bool) -> bool
+    ensures { λ r. ⌜ r ≡ (a && b) ⌝ }
 {
-    let mut slots = no_slots();
+    if a { b } else { false }
+}
+
+// The ten slots after the count, up to the first with a bad digit; the first n are counted.
+pub(crate) fn slots_in(body: &[u8], n: usize) -> SlotsField
+    requires { ⌜ length (now body) ≡ 361 ⌝ }
+    ensures { λ r. ⌜ (r .good ≡ goodCells (slotsCells 10) (drop 1 (now (body .entry)))) × (r .good ≡ true → (r .slots ≡ slotsOf 10 (decode (slotsCells 10) (drop 1 (now (body .entry))))) × (r .timed ≡ slotsPass slotTimed 10 n (decode (slotsCells 10) (drop 1 (now (body .entry))))) × (r .ruled ≡ slotsPass slotRuled 10 n (decode (slotsCells 10) (drop 1 (now (body .entry)))))) ⌝ }
+{
+    let empty = no_slot();
+    let mut slots = [empty; 10];
+    let mut timed = true;
+    let mut ruled = true;
+    let mut left = n;
     let mut i = 0;
     let mut at = 1;
     while i < 10 {
         let f = slot_at(body, at);
         if !f.good {
-            return SlotsField { good: false, slots };
+            return SlotsField {
+                good: false,
+                timed,
+                ruled,
+                slots,
+            };
         }
         let s = f.slot;
         slots[i] = s;
+        timed = both(timed, time_right(s.time, left));
+        ruled = both(ruled, slot_right(s, left));
+        left = less_one(left);
         at += SLOT;
         i += 1;
     }
-    SlotsField { good: true, slots }
+    SlotsField {
+        good: true,
+        timed,
+        ruled,
+        slots,
+    }
 }
