@@ -1,5 +1,5 @@
 -- The rules over the slots, one slot at a time.
-use Prim.Native.Nat.{ℕ, zero, suc, _+_, _-_, _≤_, _<_}
+use Prim.Native.Nat.{ℕ, zero, suc, _+_, _-_, _*_, _/_, _%_, _≤_, _<_}
 use mathlib.Core.Path.{_≡_, refl, sym, ap, ap₂, _∙_, subst}
 use mathlib.Core.Bool.{Bool, true, false, _&&_, _||_}
 use mathlib.Core.List.{List, [], _∷_}
@@ -7,9 +7,10 @@ use native.Mathlib.Omega.{arith}
 use native.Mathlib.Numerals.{add-one}
 use lib.ListN.{length, getD, take, drop}
 use lib.Seq.{take-at, drop-at, drop-cons, getD-append-add}
-use lib.Dec.{eqb, leb}
-use borrow.Author.Tests.{le-leb, lt-leb, eqb-true, eqb-false, leb-true}
+use lib.Dec.{eqb, leb, ltb}
+use borrow.Author.Tests.{le-leb, lt-leb, lt-ltb, le-ltb, eqb-true, eqb-false, leb-true, ltb-true, ltb-false}
 use Rattle.frame.specs.Times.{timeOfDay, nines, every, codeRight}
+use Rattle.frame.proofs.RuleLaws.{time-width, hours-over, minutes-over, seconds-say}
 use Rattle.prices.specs.declared.Slot.{Slot}
 use Rattle.prices.specs.Prices.{slotCode, slotTime, slotTimed, slotRuled, slotsPass, slotValues, slotsValues, codesLong}
 use Rattle.prices.proofs.PriceLaws.{length-slotValues}
@@ -34,6 +35,29 @@ pub every-one : (a : ℕ) (bs : List ℕ) → every (eqb a) bs ≡ every (betwee
 every-one a [] = refl
 every-one a (b ∷ bs) = ap₂ _&&_ (between-one a b) (every-one a bs)
 
+-- ---- a time of day, by its hours and minutes and by what follows them
+module _ (h r : ℕ) (l : r < 100000000) where
+  abbrev time : ℕ
+  time = h * 100000000 + r
+
+  -- with its seconds, and no fraction
+  seconds : timeOfDay 6 time ≡ timeOfDay 0 (h * 100 + r / 1000000)
+  seconds = let e : time / 1000000 ≡ h * 100 + r / 1000000 = omega arith in time-width 6 time ∙ ap (timeOfDay 0) e
+
+  pub day-hours : 2399 < h → false ≡ timeOfDay 6 time
+  day-hours o = hours-over (h * 100 + r / 1000000) (omega arith) ∙ sym seconds
+
+  module _ (u : h ≤ 2399) where
+    pub day-minutes : 59 < h % 100 → false ≡ timeOfDay 6 time
+    day-minutes o = minutes-over (h * 100 + r / 1000000) (omega arith) (omega arith) ∙ sym seconds
+
+    pub day-seconds : h % 100 ≤ 59 → ltb r 60000000 ≡ timeOfDay 6 time
+    day-seconds v = go (ltb r 60000000) refl ∙ seconds-say (h * 100 + r / 1000000) (omega arith) (omega arith) ∙ sym seconds
+      where
+        go : (t : Bool) → ltb r 60000000 ≡ t → t ≡ ltb ((h * 100 + r / 1000000) % 100) 60
+        go true e = sym (lt-ltb ((h * 100 + r / 1000000) % 100) 60 (omega (arith, ltb-true r 60000000 e)))
+        go false e = sym (le-ltb ((h * 100 + r / 1000000) % 100) 60 (omega (arith, ltb-false r 60000000 e)))
+
 -- ---- one slot
 module _ (s : Slot) (l : length (s .code) ≡ 6) where
   abbrev amounts : List ℕ
@@ -48,7 +72,7 @@ module _ (s : Slot) (l : length (s .code) ≡ 6) where
   amounts-are : take 6 (drop 6 (slotValues s)) ≡ amounts
   amounts-are = ap (take 6) (drop-at (s .code) amounts 6 l)
 
-  pub timed-is : (n : ℕ) → slotTimed n (slotValues s) ≡ (timeOfDay 6 (s .time) || (leb 1 n && eqb (s .time) (nines 6)))
+  timed-is : (n : ℕ) → slotTimed n (slotValues s) ≡ (timeOfDay 6 (s .time) || (leb 1 n && eqb (s .time) (nines 6)))
   timed-is zero = ap (timeOfDay 6) time-is ∙ sym (or-none (timeOfDay 6 (s .time)))
     where
       or-none : (t : Bool) → (t || (leb 1 0 && eqb (s .time) (nines 6))) ≡ t
@@ -57,6 +81,9 @@ module _ (s : Slot) (l : length (s .code) ≡ 6) where
   timed-is (suc n) =
       ap (λ (x : ℕ). timeOfDay 6 x || eqb x (nines 6)) time-is
       ∙ sym (ap (λ (u : Bool). timeOfDay 6 (s .time) || (u && eqb (s .time) (nines 6))) (le-leb 1 (suc n) (omega arith)))
+
+  pub timed-by : (n : ℕ) {d : Bool} → d ≡ timeOfDay 6 (s .time) → slotTimed n (slotValues s) ≡ (d || (leb 1 n && eqb (s .time) (nines 6)))
+  timed-by n e = timed-is n ∙ ap (λ (t : Bool). t || (leb 1 n && eqb (s .time) (nines 6))) (sym e)
 
   pub counted-is : (n : ℕ) → 0 < n → slotRuled n (slotValues s) ≡ every (between 32 126) (s .code)
   counted-is zero h = absurd (omega arith)

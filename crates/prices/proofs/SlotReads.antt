@@ -14,12 +14,12 @@ use Rattle.digits.specs.declared.amounts.Pair.{Pair}
 use Rattle.digits.specs.declared.amounts.PriceField.{PriceField}
 use Rattle.digits.specs.declared.amounts.PairField.{PairField}
 use Rattle.digits.specs.declared.halves.Halves.{Halves}
-use Rattle.digits.proofs.Bools.{no-false, and-both}
+use Rattle.digits.proofs.Bools.{no-false, and-right, and-both}
 use Rattle.digits.proofs.Places.{inside}
-use Rattle.digits.proofs.PackedLaws.{value-parts}
-use Rattle.digits.proofs.Values.{even-field}
+use Rattle.digits.proofs.PackedLaws.{value-lt, value-parts}
+use Rattle.digits.proofs.Values.{good-split, even-field}
 use Rattle.frame.specs.Cells.{Cell, digits, goodCells, decode}
-use Rattle.prices.specs.declared.Slot.{Slot}
+use Rattle.frame.specs.Times.{timeOfDay}
 use Rattle.prices.specs.Prices.{slotCells, slotOf}
 use Rattle.frame.proofs.RawLaws.{good-raws, decode-raws}
 use Rattle.prices.proofs.PriceLaws.{slot-made}
@@ -92,6 +92,13 @@ module _ (s : List ℕ) (at : ℕ) (h : at + 6 ≤ length s) where
   pub time-good : halvesAt 6 2 s at .good ≡ goodField 12 (part 6 s at)
   time-good = ap (λ (x : Halves). x .good) halves-in ∙ sym (even-field 12 (part 6 s at) (ap (λ (k : ℕ). 100 ^ k) (sym (length-part 6 s at h))))
 
+  pub time-fits : halvesAt 6 2 s at .good ≡ true → halvesAt 6 2 s at .last < 100000000
+  time-fits g =
+      let bs = part 6 s at in
+      let good-bs : good bs ≡ true = sym (ap (λ (x : Halves). x .good) halves-in) ∙ g in
+      let n : length (drop 2 bs) ≡ 4 = length-drop 2 bs ∙ omega (arith, length-part 6 s at h) in
+      rw halves-in (rw n at (value-lt (drop 2 bs) (and-right (good (take 2 bs)) (good (drop 2 bs)) (good-split 2 bs ∙ good-bs))))
+
   pub time-value : halvesAt 6 2 s at .first * 100000000 + halvesAt 6 2 s at .last ≡ value (part 6 s at)
   time-value = ap (λ (x : Halves). x .first * 100000000 + x .last) halves-in ∙ value-halves (part 6 s at) (length-part 6 s at h)
 
@@ -147,22 +154,21 @@ module _ (s : List ℕ) (at : ℕ) where
       ∙ rw (at30, at26, at21, at16, at11, at6)
 
 -- ---- a bad field makes a bad slot
-pub slot-bad : (s : List ℕ) (at : ℕ) (x : Slot) {r : Bool} → r ≡ false → goodCells slotCells (drop at s) ≡ false
-    → (r ≡ goodCells slotCells (drop at s)) × (r ≡ true → x ≡ slotOf (decode slotCells (drop at s)))
-slot-bad s at x p q = (p ∙ sym q, λ t. absurd (no-false (sym p ∙ t)))
+pub slot-bad : (s : List ℕ) (at : ℕ) {P : Type 0} {r : Bool} → r ≡ false → goodCells slotCells (drop at s) ≡ false → (r ≡ goodCells slotCells (drop at s)) × (r ≡ true → P)
+slot-bad s at p q = (p ∙ sym q, λ t. absurd (no-false (sym p ∙ t)))
 
 -- ---- good fields make the slot
-module _ (s : List ℕ) (at : ℕ) (l : at + 36 ≤ length s) {code : List ℕ} {o h w : Price} {p : Pair} {m : ℕ} where
+module _ (s : List ℕ) (at : ℕ) (l : at + 36 ≤ length s) {code : List ℕ} {o h w : Price} {p : Pair} {m : ℕ} {d : Bool} where
   pub slot-is : code ≡ part 6 s at
       → (goodField 9 (part 5 s (at + 6)) ≡ true) × (asPrice (value (part 5 s (at + 6))) ≡ o)
       → (goodField 9 (part 5 s (at + 11)) ≡ true) × (asPrice (value (part 5 s (at + 11))) ≡ h)
       → (goodField 9 (part 5 s (at + 16)) ≡ true) × (asPrice (value (part 5 s (at + 16))) ≡ w)
       → ((goodField 9 (part 5 s (at + 21)) && goodField 8 (part 4 s (at + 26))) ≡ true)
       × (record { price = asPrice (value (part 5 s (at + 21))); quantity = asQuantity (value (part 4 s (at + 26))) } ≡ p)
-      → goodField 12 (part 6 s (at + 30)) ≡ true → m ≡ value (part 6 s (at + 30))
+      → goodField 12 (part 6 s (at + 30)) ≡ true → m ≡ value (part 6 s (at + 30)) → d ≡ timeOfDay 6 m
       → (true ≡ goodCells slotCells (drop at s))
-      × (true ≡ true → record { code = code; opening = o; highest = h; lowest = w; last = p .price; total = p .quantity; time = m } ≡ slotOf (decode slotCells (drop at s)))
-  slot-is e1 e2 e3 e4 e5 g e6 = (
+      × (true ≡ true → (record { code = code; opening = o; highest = h; lowest = w; last = p .price; total = p .quantity; time = m } ≡ slotOf (decode slotCells (drop at s))) × (d ≡ timeOfDay 6 m))
+  slot-is e1 e2 e3 e4 e5 g e6 e7 = (
     sym (slot-good s at ∙ and-both (e2 .0) (and-both (e3 .0) (and-both (e4 .0) (and-both (e5 .0) (and-both g refl))))),
-    λ u. rw (e1, ← e2 .1, ← e3 .1, ← e4 .1, ← e5 .1, e6) (sym (slot-values s at l)),
+    λ u. (rw (e1, ← e2 .1, ← e3 .1, ← e4 .1, ← e5 .1, e6) (sym (slot-values s at l)), e7),
   )

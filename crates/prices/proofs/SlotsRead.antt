@@ -14,7 +14,7 @@ use Rattle.frame.proofs.CellLaws.{goodCells-append, decode-append, length-decod
 use Rattle.prices.specs.declared.Slot.{Slot}
 use Rattle.prices.specs.Prices.{slotCells, slotsCells, slotCode, slotTimed, slotRuled, slotsPass, slotOf, slotsOf, slotValues}
 use Rattle.prices.proofs.PriceLaws.{slotValues-of}
-use Rattle.prices.proofs.RuleLaws.{timed-is}
+use Rattle.prices.proofs.RuleLaws.{timed-by}
 use Rattle.prices.proofs.AndLaws.{none}
 
 module _ (b : List ℕ) where
@@ -106,11 +106,11 @@ module _ (b : List ℕ) where
 
     -- the tests of this slot, by the slot itself
     module _ (s : Slot) (e : s ≡ slotOf (valuesAt at)) where
-      pub slot-timed : (n : ℕ) → (timeOfDay 6 (s .time) || (leb 1 n && eqb (s .time) (nines 6))) ≡ slotTimed n (valuesAt at)
-      slot-timed n =
+      pub slot-timed : (n : ℕ) {d : Bool} → d ≡ timeOfDay 6 (s .time) → (d || (leb 1 n && eqb (s .time) (nines 6))) ≡ slotTimed n (valuesAt at)
+      slot-timed n f =
           let l : length (slotCode (valuesAt at)) ≡ 6 = length-take-le 6 (valuesAt at) (omega (arith, length-slot at)) in
-          ap (λ (x : Slot). timeOfDay 6 (x .time) || (leb 1 n && eqb (x .time) (nines 6))) e
-          ∙ sym (timed-is (slotOf (valuesAt at)) l n)
+          sym (timed-by s (ap (λ (x : Slot). length (x .code)) e ∙ l) n f)
+          ∙ ap (λ (x : Slot). slotTimed n (slotValues x)) e
           ∙ ap (slotTimed n) (slotValues-of (valuesAt at) (length-slot at))
 
       pub slot-ruled : (n : ℕ) → slotRuled n (slotValues s) ≡ slotRuled n (valuesAt at)

@@ -1,5 +1,5 @@
 // The rules on what the slots hold.
-ghost use Prim.Native.Nat.{_-_};
+ghost use Prim.Native.Nat.{_+_, _-_, _*_, _<_};
 ghost use mathlib.Core.Path.{_≡_};
 ghost use mathlib.Core.Bool.{_&&_, _||_};
 ghost use lib.Dec.{eqb, leb};
@@ -10,15 +10,29 @@ use crate::Slot;
 // All nines: the closing price.
 const NINES: u64 = 999_999_999_999;
 
-// Hours, minutes and seconds, with six digits of a free fraction.
+// Hours and minutes, and seconds with six digits of a free fraction.
+pub(crate) fn day_of(hhmm: u32, rest: u32) -> bool
+    requires { ⌜ rest < 100000000 ⌝ }
+    ensures { λ r. ⌜ r ≡ timeOfDay 6 (hhmm * 100000000 + rest) ⌝ }
+{
+    if hhmm > 2399 {
+        return false;
+    }
+    if hhmm % 100 > 59 {
+        return false;
+    }
+    rest < 60_000_000
+}
+
+// The same of a whole time.
 fn time_of_day(t: u64) -> bool
     ensures { λ r. ⌜ r ≡ timeOfDay 6 t ⌝ }
 {
-    let hhmmss = t / 1_000_000;
-    if hhmmss > 239999 {
+    let hhmm = t / 100_000_000;
+    if hhmm > 2399 {
         return false;
     }
-    frame::rules::time_of_day(hhmmss as u32)
+    day_of(hhmm as u32, (t % 100_000_000) as u32)
 }
 
 // One less, or 0.
@@ -28,11 +42,11 @@ pub(crate) fn less_one(n: usize) -> usize
     if n > 0 { n - 1 } else { 0 }
 }
 
-// The time of a slot where n counted ones are still to come.
-pub(crate) fn time_right(t: u64, n: usize) -> bool
-    ensures { λ r. ⌜ r ≡ (timeOfDay 6 t || (leb 1 n && eqb t (nines 6))) ⌝ }
+// The time of a slot where n counted ones are still to come: one of day, or all nines.
+pub(crate) fn time_right(day: bool, t: u64, n: usize) -> bool
+    ensures { λ r. ⌜ r ≡ (day || (leb 1 n && eqb t (nines 6))) ⌝ }
 {
-    if time_of_day(t) {
+    if day {
         return true;
     }
     if n == 0 {
@@ -49,7 +63,7 @@ pub(crate) fn timed(slots: [Slot; 10], n: usize) -> bool
     let mut left = n;
     while i < 10 {
         let s = slots[i];
-        if !time_right(s.time, left) {
+        if !time_right(time_of_day(s.time), s.time, left) {
             return false;
         }
         left = less_one(left);

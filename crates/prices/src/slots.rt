@@ -4,8 +4,10 @@ ghost use mathlib.Core.Path.{_≡_};
 ghost use mathlib.Core.Bool.{true, false, _&&_};
 ghost use lib.ListN.{length, take, drop, replicate};
 ghost use Rattle.frame.specs.Cells.{goodCells, decode};
+ghost use Rattle.frame.specs.Times.{timeOfDay};
 ghost use Rattle.prices.specs.Prices.{slotCells, slotsCells, slotOf, slotsOf, slotsPass, slotTimed, slotRuled, noSlot};
 use crate::Slot;
+use crate::rules::day_of;
 use crate::rules::less_one;
 use crate::rules::slot_right;
 use crate::rules::time_right;
@@ -23,9 +25,10 @@ const SLOT: usize = 36;
 // What a time's last eight digits count up to.
 const ABOVE_EIGHT: u64 = 100_000_000;
 
-// A slot, which says nothing where a digit is bad.
+// A slot, and whether its time is one of day; both say nothing where a digit is bad.
 pub(crate) struct SlotField {
     pub good: bool,
+    pub day: bool,
     pub slot: Slot,
 }
 
@@ -63,13 +66,17 @@ fn bad_slot() -> SlotField
     ensures { λ r. ⌜ r .good ≡ false ⌝ }
 {
     let slot = no_slot();
-    SlotField { good: false, slot }
+    SlotField {
+        good: false,
+        day: false,
+        slot,
+    }
 }
 
 // The 36 bytes of a slot.
 fn slot_at(body: &[u8], at: usize) -> SlotField
     requires { ⌜ at + 36 ≤ length (now body) ⌝ }
-    ensures { λ r. ⌜ (r .good ≡ goodCells slotCells (drop at (now (body .entry)))) × (r .good ≡ true → r .slot ≡ slotOf (decode slotCells (drop at (now (body .entry))))) ⌝ }
+    ensures { λ r. ⌜ (r .good ≡ goodCells slotCells (drop at (now (body .entry)))) × (r .good ≡ true → (r .slot ≡ slotOf (decode slotCells (drop at (now (body .entry))))) × (r .day ≡ timeOfDay 6 (r .slot .time))) ⌝ }
 {
     let PriceField::Is(opening) = Price::from_digits(body, at + 6) else {
         return bad_slot();
@@ -88,6 +95,7 @@ fn slot_at(body: &[u8], at: usize) -> SlotField
         let code = code_at(body, at);
         let last = pair.price;
         let total = pair.quantity;
+        let day = day_of(h.first, h.last);
         let time = (h.first as u64) * ABOVE_EIGHT + (h.last as u64);
         let slot = Slot {
             code,
@@ -98,7 +106,11 @@ fn slot_at(body: &[u8], at: usize) -> SlotField
             total,
             time,
         };
-        SlotField { good: true, slot }
+        SlotField {
+            good: true,
+            day,
+            slot,
+        }
     } else {
         bad_slot()
     }
@@ -135,7 +147,7 @@ pub(crate) fn slots_in(body: &[u8], n: usize) -> SlotsField
         }
         let s = f.slot;
         slots[i] = s;
-        timed = both(timed, time_right(s.time, left));
+        timed = both(timed, time_right(f.day, s.time, left));
         ruled = both(ruled, slot_right(s, left));
         left = less_one(left);
         at += SLOT;

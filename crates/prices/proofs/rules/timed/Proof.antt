@@ -7,7 +7,7 @@ use borrow.Author.Tests.{not-true, not-false}
 use lib.ListN.{drop, getD}
 use Rattle.prices.specs.Prices.{slotsPass, slotTimed, slotsValues}
 use Rattle.prices.proofs.Shapes.{someSlot, codes-long}
-use Rattle.prices.proofs.RuleLaws.{codes-at, timed-is, pass-fails, pass-again, pass-done}
+use Rattle.prices.proofs.RuleLaws.{codes-at, timed-by, pass-fails, pass-again, pass-done}
 use Rattle.prices.proofs.rules.timed.Statement.{statement}
 use Rattle.prices.proofs.rules.timed.Tie as tie
 
@@ -26,16 +26,20 @@ mul-s c = search needs
 array-copy-out-s : tie.Need-array-copy-out-s Inv-loop μ-loop
 array-copy-out-s c = search needs
 
+time-of-day-requires : tie.Need-time-of-day-requires Inv-loop μ-loop
+time-of-day-requires c κs = search needs
+
 time-right-requires : tie.Need-time-right-requires Inv-loop μ-loop
 time-right-requires c κs = search needs
 
 returns : tie.Need-returns Inv-loop μ-loop
 returns c =
-    let a = c .before .before .before .before .before .args in
-    let l = c .before .before .before .before .loop in
-    let k = codes-long 10 (a .t1) _ (c .before .before .before .before .before .good .0) in
+    let o = c .before .before .before .before .before .before in
+    let a = o .args in
+    let l = c .before .before .before .before .before .loop in
+    let k = codes-long 10 (a .t1) _ (o .good .0) in
     sym (pass-fails slotTimed (a .t1) (k .0) (k .1) someSlot (a .n) (l .left) (l .i) (omega arith) (l .inv .1)
-    (timed-is (getD (a .t1) (l .i) someSlot) (codes-at (a .t1) (l .i) someSlot (k .1) (omega arith)) (l .left) ∙ sym (c .before .time-right .ensures) ∙ not-true _ (c .if1 .taken)))
+    (timed-by (getD (a .t1) (l .i) someSlot) (codes-at (a .t1) (l .i) someSlot (k .1) (omega arith)) (l .left) (c .before .before .time-of-day .ensures) ∙ sym (c .before .time-right .ensures) ∙ not-true _ (c .if1 .taken)))
 
 less-one-requires : tie.Need-less-one-requires Inv-loop μ-loop
 less-one-requires c κs = search needs
@@ -48,13 +52,14 @@ loop-less c = search needs
 
 loop-again : tie.Need-loop-again Inv-loop μ-loop
 loop-again c =
-    let a = c .before .before .before .before .before .before .args in
-    let l = c .before .before .before .before .before .loop in
-    let k = codes-long 10 (a .t1) _ (c .before .before .before .before .before .before .good .0) in (
+    let o = c .before .before .before .before .before .before .before in
+    let a = o .args in
+    let l = c .before .before .before .before .before .before .loop in
+    let k = codes-long 10 (a .t1) _ (o .good .0) in (
       omega arith,
       ap (λ (m : ℕ). slotsPass slotTimed (10 - (l .i + 1)) m (slotsValues (drop (l .i + 1) (a .t1)))) (c .less-one .ensures)
           ∙ pass-again slotTimed (a .t1) (k .0) (k .1) someSlot (a .n) (l .left) (l .i) (omega arith) (l .inv .1)
-          (timed-is (getD (a .t1) (l .i) someSlot) (codes-at (a .t1) (l .i) someSlot (k .1) (omega arith)) (l .left) ∙ sym (c .before .before .time-right .ensures) ∙ not-false _ (c .before .if1 .left)),
+          (timed-by (getD (a .t1) (l .i) someSlot) (codes-at (a .t1) (l .i) someSlot (k .1) (omega arith)) (l .left) (c .before .before .before .time-of-day .ensures) ∙ sym (c .before .before .time-right .ensures) ∙ not-false _ (c .before .if1 .left)),
     )
 
 returns-2 : tie.Need-returns-2 Inv-loop μ-loop
@@ -73,6 +78,7 @@ timed-spec =
     loop-holds
     mul-s
     array-copy-out-s
+    time-of-day-requires
     time-right-requires
     returns
     less-one-requires

@@ -1,6 +1,6 @@
 -- `slots::slot_at` meets its contract.
-use Prim.Native.Nat.{ℕ, _+_, _*_}
-use mathlib.Core.Path.{_≡_, sym, ap, _∙_}
+use Prim.Native.Nat.{ℕ, _+_, _*_, _<_}
+use mathlib.Core.Path.{_≡_, sym, ap, _∙_, subst}
 use mathlib.Core.Bool.{true, _&&_}
 use mathlib.Core.List.{List}
 use native.Mathlib.Omega.{arith}
@@ -9,7 +9,7 @@ use Rattle.digits.specs.Packed.{goodField, value}
 use Rattle.digits.specs.Amounts.{asPrice, asQuantity}
 use Rattle.digits.specs.declared.halves.Halves.{Halves}
 use Rattle.prices.proofs.AndLaws.{later, none}
-use Rattle.prices.proofs.SlotReads.{part, price-bad, price-is, pair-bad, pair-is, time-good, time-value, slot-good, slot-bad, slot-is}
+use Rattle.prices.proofs.SlotReads.{part, price-bad, price-is, pair-bad, pair-is, time-good, time-fits, time-value, slot-good, slot-bad, slot-is}
 use Rattle.prices.proofs.slots.slot_at.Statement.{statement}
 use Rattle.prices.proofs.slots.slot_at.Tie as tie
 use Rattle.frame.proofs.RuleLaws.{code-in}
@@ -84,7 +84,7 @@ bad-slot-requires c κs = search needs
 returns : tie.Need-returns
 returns c =
     let o = c .before .before .before .before .before in
-    slot-bad (o .args .body .now) (o .args .at) (c .bad-slot .result .slot) (c .bad-slot .ensures)
+    slot-bad (o .args .body .now) (o .args .at) (c .bad-slot .ensures)
     (slot-good (o .args .body .now) (o .args .at) ∙ none _
     (price-bad (o .args .body .now) (o .args .at + 6) (omega (arith, o .pre)) (sym (c .before .before .before .from-digits .ensures) ∙ c .before .enum-told .given .1)))
 
@@ -107,7 +107,7 @@ returns-2 : tie.Need-returns-2
 returns-2 c =
     let t = c .before .before .before .before in
     let o = s1 t in
-    slot-bad (o .args .body .now) (o .args .at) (c .bad-slot2 .result .slot) (c .bad-slot2 .ensures)
+    slot-bad (o .args .body .now) (o .args .at) (c .bad-slot2 .ensures)
     (slot-good (o .args .body .now) (o .args .at) ∙ later (is-opening t .0) (none _
     (price-bad (o .args .body .now) (o .args .at + 11) (omega (arith, o .pre)) (sym (c .before .before .before .from-digits2 .ensures) ∙ c .before .enum-told2 .given .1))))
 
@@ -130,7 +130,7 @@ returns-3 : tie.Need-returns-3
 returns-3 c =
     let t = c .before .before .before .before in
     let o = s2 t in
-    slot-bad (o .args .body .now) (o .args .at) (c .bad-slot3 .result .slot) (c .bad-slot3 .ensures)
+    slot-bad (o .args .body .now) (o .args .at) (c .bad-slot3 .ensures)
     (slot-good (o .args .body .now) (o .args .at) ∙ later (is-opening (b2 t) .0) (later (is-highest t .0) (none _
     (price-bad (o .args .body .now) (o .args .at + 16) (omega (arith, o .pre)) (sym (c .before .before .before .from-digits3 .ensures) ∙ c .before .enum-told3 .given .1)))))
 
@@ -153,7 +153,7 @@ returns-4 : tie.Need-returns-4
 returns-4 c =
     let t = c .before .before .before .before in
     let o = s3 t in
-    slot-bad (o .args .body .now) (o .args .at) (c .bad-slot4 .result .slot) (c .bad-slot4 .ensures)
+    slot-bad (o .args .body .now) (o .args .at) (c .bad-slot4 .ensures)
     (slot-good (o .args .body .now) (o .args .at) ∙ later (is-opening (b2 (b3 t)) .0) (later (is-highest (b3 t) .0) (later (is-lowest t .0) (none _
     (pair-bad (o .args .body .now) (o .args .at + 21) (o .args .at + 26) (omega arith) (omega (arith, o .pre)) (sym (c .before .before .before .from-digits4 .ensures) ∙ c .before .enum-told4 .given .1))))))
 
@@ -165,6 +165,13 @@ six-at-requires c κs = search needs
 
 code-at-requires : tie.Need-code-at-requires
 code-at-requires c κs = search needs
+
+day-of-requires : tie.Need-day-of-requires
+day-of-requires c κs =
+    let o = s4 (c .before .before .before .before .before) in
+    let h = c .before .before .before .before .six-at in
+    subst (λ (x : Halves). x .last < 100000000) (sym (h .ensures))
+    (time-fits (o .args .body .now) (o .args .at + 30) (omega (arith, o .pre)) (sym (ap (λ (x : Halves). x .good) (h .ensures)) ∙ c .before .before .before .if1 .taken))
 
 cast-time : tie.Need-cast-time
 cast-time c = search needs
@@ -183,7 +190,7 @@ bad-slot-requires-5 c κs = search needs
 
 returns-5 : tie.Need-returns-5
 returns-5 c =
-    let k = c .before .before in
+    let k = c .before .before .before in
     let t = k .before .before .before .before .before in
     let o = s4 t in
     let h = k .before .before .before .before .six-at in
@@ -191,12 +198,13 @@ returns-5 c =
     (is-opening (b2 (b3 (b4 t)))) (is-highest (b3 (b4 t))) (is-lowest (b4 t)) (is-pair t)
     (sym (time-good (o .args .body .now) (o .args .at + 30) (omega (arith, o .pre))) ∙ sym (ap (λ (x : Halves). x .good) (h .ensures)) ∙ k .before .before .before .if1 .taken)
     (ap (λ (x : Halves). x .first * 100000000 + x .last) (h .ensures) ∙ time-value (o .args .body .now) (o .args .at + 30) (omega (arith, o .pre)))
+    (c .before .before .day-of .ensures)
 
 returns-6 : tie.Need-returns-6
 returns-6 c =
     let t = c .before .before .before in
     let o = s4 t in
-    slot-bad (o .args .body .now) (o .args .at) (c .bad-slot5 .result .slot) (c .bad-slot5 .ensures)
+    slot-bad (o .args .body .now) (o .args .at) (c .bad-slot5 .ensures)
     (slot-good (o .args .body .now) (o .args .at) ∙ later (is-opening (b2 (b3 (b4 t))) .0) (later (is-highest (b3 (b4 t)) .0) (later (is-lowest (b4 t) .0) (later (is-pair t .0) (none _
     (sym (time-good (o .args .body .now) (o .args .at + 30) (omega (arith, o .pre))) ∙ sym (ap (λ (h : Halves). h .good) (c .before .before .six-at .ensures)) ∙ c .before .if1 .left))))))
 
@@ -231,6 +239,7 @@ slot-at-spec =
     add-six-at
     six-at-requires
     code-at-requires
+    day-of-requires
     cast-time
     mul-time
     cast-time-2

@@ -80,14 +80,14 @@ loop-again c =
     let b = a .body .now in
     let good = not-false _ (k .before .if1 .left) in
     let f = k .before .before .before .slot-at in
-    let s = f .ensures .1 good in (
+    let s = f .ensures .1 good .0 in (
       omega arith,
       omega arith,
       length-set (l .slots) (l .i) _ ∙ l .inv .2,
       turn-good b (l .slots) (l .i) (l .at) (omega arith) (l .inv .2) (l .inv .3) (l .inv .4) (sym (f .ensures .0) ∙ good),
       turn-slots b (l .slots) (l .i) (l .at) (omega arith) (l .inv .2) (l .inv .3) (l .inv .4) _ s,
       turn-pass b (l .slots) (l .i) (l .at) (omega arith) (l .inv .2) (l .inv .3) (l .inv .4) slotTimed (a .n) (l .left) (l .timed) (l .inv .5)
-          (c .before .before .before .before .time-right .ensures ∙ slot-timed b (l .slots) (l .i) (l .at) (omega arith) (l .inv .2) (l .inv .3) (l .inv .4) _ s (l .left))
+          (c .before .before .before .before .time-right .ensures ∙ slot-timed b (l .slots) (l .i) (l .at) (omega arith) (l .inv .2) (l .inv .3) (l .inv .4) _ s (l .left) (f .ensures .1 good .1))
           (c .before .before .before .both .ensures) (c .less-one .ensures),
       turn-pass b (l .slots) (l .i) (l .at) (omega arith) (l .inv .2) (l .inv .3) (l .inv .4) slotRuled (a .n) (l .left) (l .ruled) (l .inv .6)
           (c .before .before .slot-right .ensures ∙ slot-ruled b (l .slots) (l .i) (l .at) (omega arith) (l .inv .2) (l .inv .3) (l .inv .4) _ s (l .left))
