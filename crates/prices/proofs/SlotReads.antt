@@ -1,12 +1,12 @@
 -- A slot read out of bytes: what each field's call tells of its bytes, and what the fields tell of the slot.
-use Prim.Native.Nat.{ℕ, suc, _+_, _*_, _^_, _≤_, _<_}
+use Prim.Native.Nat.{ℕ, _+_, _*_, _^_, _≤_, _<_}
 use mathlib.Core.Path.{_≡_, refl, sym, ap, ap₂, _∙_}
 use mathlib.Core.Bool.{Bool, true, false, cond, _&&_, and-assoc}
 use mathlib.Core.List.{List, [], _∷_, _++_}
 use native.Mathlib.Omega.{arith}
-use lib.ListN.{length, getD, take, drop, length-drop, take-append-drop}
+use lib.ListN.{length, take, drop, length-drop}
 use lib.Seq.{drop-drop, take-add, take-at, drop-at, length-take-le}
-use Rattle.digits.specs.Packed.{good, goodField, two, valueFrom, value}
+use Rattle.digits.specs.Packed.{good, goodField, value}
 use Rattle.digits.specs.Amounts.{asPrice, asQuantity, priceAt, pairAt, priceOf, pairOf}
 use Rattle.digits.specs.Halves.{halvesAt, halvesOf, noHalves}
 use Rattle.digits.specs.declared.amounts.Price.{Price}

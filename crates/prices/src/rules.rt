@@ -10,6 +10,9 @@ use crate::Slot;
 // All nines: the closing price.
 const NINES: u64 = 999_999_999_999;
 
+// What a time's last eight digits, its seconds and fraction, count up to.
+pub(crate) const ABOVE_EIGHT: u64 = 100_000_000;
+
 // Hours and minutes, and seconds with six digits of a free fraction.
 pub(crate) fn day_of(hhmm: u32, rest: u32) -> bool
     requires { ⌜ rest < 100000000 ⌝ }
@@ -28,11 +31,11 @@ pub(crate) fn day_of(hhmm: u32, rest: u32) -> bool
 fn time_of_day(t: u64) -> bool
     ensures { λ r. ⌜ r ≡ timeOfDay 6 t ⌝ }
 {
-    let hhmm = t / 100_000_000;
+    let hhmm = t / ABOVE_EIGHT;
     if hhmm > 2399 {
         return false;
     }
-    day_of(hhmm as u32, (t % 100_000_000) as u32)
+    day_of(hhmm as u32, (t % ABOVE_EIGHT) as u32)
 }
 
 // One less, or 0.

@@ -2,11 +2,12 @@
 ghost use Prim.Native.Nat.{_+_, _≤_};
 ghost use mathlib.Core.Path.{_≡_};
 ghost use mathlib.Core.Bool.{true, false, _&&_};
-ghost use lib.ListN.{length, take, drop, replicate};
+ghost use lib.ListN.{length, drop, replicate};
 ghost use Rattle.frame.specs.Cells.{goodCells, decode};
 ghost use Rattle.frame.specs.Times.{timeOfDay};
 ghost use Rattle.prices.specs.Prices.{slotCells, slotsCells, slotOf, slotsOf, slotsPass, slotTimed, slotRuled, noSlot};
 use crate::Slot;
+use crate::rules::ABOVE_EIGHT;
 use crate::rules::day_of;
 use crate::rules::less_one;
 use crate::rules::slot_right;
@@ -21,9 +22,6 @@ use frame::rules::code_at;
 
 // The bytes of a slot.
 const SLOT: usize = 36;
-
-// What a time's last eight digits count up to.
-const ABOVE_EIGHT: u64 = 100_000_000;
 
 // A slot, and whether its time is one of day; both say nothing where a digit is bad.
 pub(crate) struct SlotField {

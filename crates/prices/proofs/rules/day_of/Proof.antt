@@ -1,5 +1,4 @@
 -- `rules::day_of` meets its contract.
-use native.Mathlib.Omega.{arith}
 use Rattle.prices.proofs.RuleLaws.{day-hours, day-minutes, day-seconds}
 use Rattle.prices.proofs.rules.day_of.Statement.{statement}
 use Rattle.prices.proofs.rules.day_of.Tie as tie

@@ -1,7 +1,7 @@
 -- `slots::slots_in` meets its contract. The loop's invariant: the slots filled and those of the bytes from here on are all slots,
 -- and a test of all is what it gave so far with the test from here on.
 use Prim.Native.Nat.{_+_, _-_, _*_, _≤_}
-use mathlib.Core.Path.{_≡_, refl, sym, ap, _∙_}
+use mathlib.Core.Path.{_≡_, refl, sym, _∙_}
 use mathlib.Core.Bool.{_&&_}
 use mathlib.Core.List.{_++_}
 use native.Mathlib.Omega.{arith}
