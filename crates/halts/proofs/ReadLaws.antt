@@ -38,13 +38,6 @@ three-bytes bs l = go (good bs) refl
     go true g = lt-ltb (value bs) (10 ^ 6) (subst (λ (n : ℕ). value bs < 100 ^ n) l (value-lt bs g))
     go false g = refl
 
--- a halt is its four parts
-same-halt : (m : Halt) (n : ℕ) (code : List ℕ) (event : Event) (state : Sending) → m .seq ≡ n → m .code ≡ code → m .event ≡ event → m .state ≡ state
-    → m ≡ record { seq = n; code = code; event = event; state = state }
-same-halt m n code event state i j v w =
-    ap₂ (λ (x : ℕ) (y : List ℕ). record { seq = x; code = y; event = m .event; state = m .state }) i j
-    ∙ ap₂ (λ (x : Event) (y : Sending). record { seq = n; code = code; event = x; state = y }) v w
-
 -- ---- the answers
 chosen : (n : ℕ) (f : Frame) (m : Halt) → eqb n 0 ≡ false → leb n 5 ≡ false
     → _≡_ {A = HaltReading} (record { answer = named n f; halt = cond (eqb n 0) m noHalt }) (record { answer = Refused n (f .length); halt = noHalt })
@@ -168,11 +161,9 @@ module _ (b : List ℕ) (l : length b ≡ 13) where
           ∙ ap₂ (λ (k : ℕ) (m : Halt). record { answer = Accepted (record { format = 19; seq = n; length = 13 + k }); halt = m }) l
           (ap (haltOf n) values-are ∙ halt-of-joined (take 6 b) six-long h r (getD b 12 0) n)
 
-      -- the message that the code makes
-      pub accepted-as : (n : ℕ) → codeFits (take 6 b) h r ≡ true → stateRight (getD b 12 0) ≡ true → (m : Halt) (code : List ℕ) → code ≡ take 6 b
-          → m .seq ≡ n → m .code ≡ code → m .event ≡ eventOf code h r → m .state ≡ sendingOf (getD b 12 0)
-          → _≡_ {A = HaltReading} (record { answer = Accepted (record { format = 19; seq = n; length = 26 }); halt = m }) (haltReading n b)
-      accepted-as n p q m code e i j v w =
-          let same : m ≡ record { seq = n; code = take 6 b; event = eventOf (take 6 b) h r; state = sendingOf (getD b 12 0) } =
-          same-halt m n (take 6 b) (eventOf (take 6 b) h r) (sendingOf (getD b 12 0)) i (j ∙ e) (v ∙ ap (λ (x : List ℕ). eventOf x h r) e) w in
-          ap (λ (x : Halt). record { answer = Accepted (record { format = 19; seq = n; length = 26 }); halt = x }) same ∙ sym (accepted n p q)
+      -- the message of the four parts that were read
+      pub accepted-as : (n : ℕ) → codeFits (take 6 b) h r ≡ true → stateRight (getD b 12 0) ≡ true
+          → (code : List ℕ) (event : Event) (state : Sending) → code ≡ take 6 b → event ≡ eventOf code h r → state ≡ sendingOf (getD b 12 0)
+          → _≡_ {A = HaltReading} (record { answer = Accepted (record { format = 19; seq = n; length = 26 }); halt = record { seq = n; code = code; event = event; state = state } })
+          (haltReading n b)
+      accepted-as n p q code event state e v w = rw (v, w, e) (sym (accepted n p q))

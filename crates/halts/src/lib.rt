@@ -180,20 +180,6 @@ fn sending_of(s: u8) -> Sending
     Sending::Instant
 }
 
-// The message of a body's numbers.
-fn halt_of(seq: u32, code: [u8; 6], h: u32, r: u32, s: u8) -> Halt
-    ensures { λ m. ⌜ (m .seq ≡ seq) × (m .code ≡ code) × (m .event ≡ eventOf code h r) × (m .state ≡ sendingOf s) ⌝ }
-{
-    let event = event_of(&code, h, r);
-    let state = sending_of(s);
-    Halt {
-        seq,
-        code,
-        event,
-        state,
-    }
-}
-
 // The empty halt, which stands beside a refusal.
 pub fn empty() -> Halt
     ensures { λ r. ⌜ r ≡ noHalt ⌝ }
@@ -244,7 +230,14 @@ pub fn read(body: &[u8], seq: u32) -> HaltReading
     if !state_right(s) {
         return refused(13, 26);
     }
-    let halt = halt_of(seq, code, h, r, s);
+    let event = event_of(&code, h, r);
+    let state = sending_of(s);
+    let halt = Halt {
+        seq,
+        code,
+        event,
+        state,
+    };
     let answer = Answer::Accepted(Frame {
         format: 19,
         seq,

@@ -135,21 +135,26 @@ returns-6 c =
     let q : stateRight (getD (bytes k) 12 0) ≡ false = sym (c .before .before .state-right .ensures) ∙ not-true _ (c .before .if4 .taken) in
     refused-as s (bytes k) 13 refl refl (wrong-state (bytes k) (long k) (halt-at k) (resume-at k) (halt-read k) (resume-read k) t q) 26 (omega (arith, long k)) (c .refused6 .result) (c .refused6 .ensures)
 
-halt-of-requires : tie.Need-halt-of-requires
-halt-of-requires c κs = search needs
+slice-aggregate-event-of : tie.Need-slice-aggregate-event-of
+slice-aggregate-event-of c = search needs
+
+event-of-requires : tie.Need-event-of-requires
+event-of-requires c κs = search needs
+
+sending-of-requires : tie.Need-sending-of-requires
+sending-of-requires c κs = search needs
 
 returns-7 : tie.Need-returns-7
 returns-7 c =
-    let k = c .before .before .before .before .before .before .before .before .before .before in
-    let s = c .before .before .before .before .before .before .before .before .before .before .before .before .before .before .before .before .before .before .before .before .args .seq in
-    let t : timesRight (halt-at k) (resume-at k) ≡ true = sym (c .before .before .before .before .before .before .before .before .before .times-right .ensures) ∙ not-false _ (c .before .before .before .before .before .before .before .before .if2 .left) in
-    let e : c .before .before .before .before .before .before .before .code-at .result ≡ take 6 (bytes k) = c .before .before .before .before .before .before .before .code-at .ensures ∙ code-in (bytes k) 0 (omega (arith, long k)) in
+    let k = c .before .before .before .before .before .before .before .before .before .before .before .before in
+    let s = c .before .before .before .before .before .before .before .before .before .before .before .before .before .before .before .before .before .before .before .before .before .before .args .seq in
+    let t : timesRight (halt-at k) (resume-at k) ≡ true = sym (c .before .before .before .before .before .before .before .before .before .before .before .times-right .ensures) ∙ not-false _ (c .before .before .before .before .before .before .before .before .before .before .if2 .left) in
+    let e : c .before .before .before .before .before .before .before .before .before .code-at .result ≡ take 6 (bytes k) = c .before .before .before .before .before .before .before .before .before .code-at .ensures ∙ code-in (bytes k) 0 (omega (arith, long k)) in
     let f : codeFits (take 6 (bytes k)) (halt-at k) (resume-at k) ≡ true =
-    ap (λ (x : List ℕ). codeFits x (halt-at k) (resume-at k)) (sym e) ∙ sym (c .before .before .before .before .code-fits .ensures) ∙ not-false _ (c .before .before .before .if3 .left) in
-    let q : stateRight (getD (bytes k) 12 0) ≡ true = sym (c .before .before .state-right .ensures) ∙ not-false _ (c .before .if4 .left) in
-    let g = c .halt-of .ensures in
-    accepted-as (bytes k) (long k) (halt-at k) (resume-at k) (halt-read k) (resume-read k) t s f q (c .halt-of .result) (c .before .before .before .before .before .before .before .code-at .result) e
-    (g .0) (g .1) (g .2) (g .3)
+    ap (λ (x : List ℕ). codeFits x (halt-at k) (resume-at k)) (sym e) ∙ sym (c .before .before .before .before .before .before .code-fits .ensures) ∙ not-false _ (c .before .before .before .before .before .if3 .left) in
+    let q : stateRight (getD (bytes k) 12 0) ≡ true = sym (c .before .before .before .before .state-right .ensures) ∙ not-false _ (c .before .before .before .if4 .left) in
+    accepted-as (bytes k) (long k) (halt-at k) (resume-at k) (halt-read k) (resume-read k) t s f q (c .before .before .before .before .before .before .before .before .before .code-at .result) (c .before .event-of .result) (c .sending-of .result) e
+    (c .before .event-of .ensures) (c .sending-of .ensures)
 
 pub read-spec : {M : Type 1} → statement M
 read-spec =
@@ -180,5 +185,7 @@ read-spec =
     state-right-requires
     refused-requires-6
     returns-6
-    halt-of-requires
+    slice-aggregate-event-of
+    event-of-requires
+    sending-of-requires
     returns-7)
