@@ -1,4 +1,4 @@
-pub mod FieldAnswers
+pub mod TimeLaws
 pub mod CountLaws
 pub mod RuleLaws
 pub mod HaltLaws

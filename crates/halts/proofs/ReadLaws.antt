@@ -1,19 +1,18 @@
 -- Reading a body: what its thirteen bytes hold, and one law for each answer.
-use Prim.Native.Nat.{ℕ, _+_, _^_, _≤_, _<_}
-use mathlib.Core.Path.{_≡_, refl, sym, ap, ap₂, _∙_, subst}
+use Prim.Native.Nat.{ℕ, _+_, _*_, _/_, _%_, _^_, _≤_}
+use mathlib.Core.Path.{_≡_, refl, sym, ap, ap₂, _∙_}
 use mathlib.Core.Bool.{Bool, true, false, cond, _&&_, and-true, and-false}
 use mathlib.Core.List.{List, [], _∷_, _++_}
 use native.Mathlib.Omega.{arith}
-use lib.Dec.{eqb, leb, ltb}
+use lib.Dec.{eqb, leb}
 use lib.ListN.{length, getD, take, drop, length-drop}
 use lib.Seq.{drop-drop, length-take-le, getD-drop, getD-take}
-use borrow.Author.Tests.{lt-ltb, lt-leb, leb-true}
+use borrow.Author.Tests.{lt-leb, leb-true}
 use Rattle.digits.specs.Packed.{good, value, goodField}
-use Rattle.digits.specs.Fields.{fieldAt}
-use Rattle.digits.specs.declared.fields.Field.{Field}
+use Rattle.digits.specs.Halves.{halvesAt}
+use Rattle.digits.specs.declared.halves.Halves.{Halves}
 use Rattle.digits.proofs.Bools.{and-both}
-use Rattle.digits.proofs.PackedLaws.{value-lt}
-use Rattle.digits.proofs.FieldLaws.{fieldAt-value}
+use Rattle.digits.proofs.Values.{even-field}
 use Rattle.frame.specs.Cells.{raw, digits, goodCells}
 use Rattle.frame.specs.Rows.{firstFail}
 use Rattle.frame.specs.Answers.{named}
@@ -28,15 +27,8 @@ use Rattle.halts.specs.declared.Halt.{Halt}
 use Rattle.halts.specs.declared.HaltReading.{HaltReading}
 use Rattle.frame.proofs.RawLaws.{decode-raws, good-raws}
 use Rattle.frame.proofs.BodyRowLaws.{fails-range, fails-digits, fails-times, fails-fields, fails-none}
+use Rattle.halts.proofs.TimeLaws.{times-good, first-time, second-time}
 use Rattle.halts.proofs.HaltLaws.{code-joined, halt-joined, resume-joined, state-joined, halt-of-joined}
-
--- three bytes of good digits are a field 9(6)
-three-bytes : (bs : List ℕ) → length bs ≡ 3 → goodField 6 bs ≡ good bs
-three-bytes bs l = go (good bs) refl
-  where
-    go : (t : Bool) → good bs ≡ t → (t && ltb (value bs) (10 ^ 6)) ≡ t
-    go true g = lt-ltb (value bs) (10 ^ 6) (subst (λ (n : ℕ). value bs < 100 ^ n) l (value-lt bs g))
-    go false g = refl
 
 -- ---- the answers
 chosen : (n : ℕ) (f : Frame) (m : Halt) → eqb n 0 ≡ false → leb n 5 ≡ false
@@ -81,16 +73,18 @@ module _ (b : List ℕ) (l : length b ≡ 13) where
   sized : eqb 13 (length b) ≡ true
   sized = ap (eqb 13) l
 
-  time-long : (at : ℕ) → at ≤ 10 → length (take 3 (drop at b)) ≡ 3
-  time-long at h = length-take-le 3 (drop at b) (rw length-drop (omega arith))
+  -- three bytes of good digits are a field 9(6)
+  time-field : (at : ℕ) → at ≤ 10 → goodField 6 (take 3 (drop at b)) ≡ good (take 3 (drop at b))
+  time-field at h =
+      even-field 6 (take 3 (drop at b)) (ap (λ (n : ℕ). 100 ^ n) (sym (length-take-le 3 (drop at b) (rw length-drop (omega arith)))))
 
   good-told : goodCells nineteenCells b ≡ (good (take 3 (drop 6 b)) && good (take 3 (drop 9 b)))
   good-told =
       good-raws 6 (digits 6 ∷ digits 6 ∷ raw ∷ []) b
-      ∙ ap₂ _&&_ (three-bytes (take 3 (drop 6 b)) (time-long 6 (omega arith)))
+      ∙ ap₂ _&&_ (time-field 6 (omega arith))
       (and-true (goodField 6 (take 3 (drop 3 (drop 6 b))))
       ∙ ap (λ (k : List ℕ). goodField 6 (take 3 k)) (drop-drop 3 6 b)
-      ∙ three-bytes (take 3 (drop 9 b)) (time-long 9 (omega arith)))
+      ∙ time-field 9 (omega arith))
 
   values-told : valuesOf nineteen b ≡ take 6 b ++ (value (take 3 (drop 6 b)) ∷ value (take 3 (drop 9 b)) ∷ getD b 12 0 ∷ [])
   values-told =
@@ -100,19 +94,24 @@ module _ (b : List ℕ) (l : length b ≡ 13) where
       ∙ ap (λ (x : ℕ). take 6 b ++ (value (take 3 (drop 6 b)) ∷ value (take 3 (drop 9 b)) ∷ x ∷ []))
       (getD-take 1 (drop 12 b) 0 0 (omega arith) ∙ getD-drop 12 b 0 0)
 
-  -- a bad digit in a time
-  pub bad-halt : good (take 3 (drop 6 b)) ≡ false → firstFail (bodyRows nineteen b) ≡ 11
-  bad-halt e = fails-digits nineteen b within-range refl sized (good-told ∙ ap (λ (t : Bool). t && good (take 3 (drop 9 b))) e)
+  -- ---- both times as the halves of six bytes
+  module _ (t : Halves) (e : t ≡ halvesAt 6 2 b 6) where
+    good-times : goodCells nineteenCells b ≡ t .good
+    good-times = good-told ∙ sym (times-good b 6 (omega arith) t e)
 
-  pub bad-resume : good (take 3 (drop 9 b)) ≡ false → firstFail (bodyRows nineteen b) ≡ 11
-  bad-resume e =
-      fails-digits nineteen b within-range refl sized
-      (good-told ∙ ap (λ (t : Bool). good (take 3 (drop 6 b)) && t) e ∙ and-false (good (take 3 (drop 6 b))))
+    -- a bad digit in a time
+    pub bad-times : t .good ≡ false → firstFail (bodyRows nineteen b) ≡ 11
+    bad-times g = fails-digits nineteen b within-range refl sized (good-times ∙ g)
 
-  -- ---- both times are numbers
-  module _ (h r : ℕ) (ph : fieldAt b 6 3 ≡ Field.Value h) (pr : fieldAt b 9 3 ≡ Field.Value r) where
+  module _ (t : Halves) (e : t ≡ halvesAt 6 2 b 6) (g : t .good ≡ true) where
+    abbrev h : ℕ
+    h = t .first * 100 + t .last / 1000000
+
+    abbrev r : ℕ
+    r = t .last % 1000000
+
     good-digits : goodCells nineteenCells b ≡ true
-    good-digits = good-told ∙ and-both (fieldAt-value b 6 3 h ph .2) (fieldAt-value b 9 3 r pr .2)
+    good-digits = good-times t e ∙ g
 
     six-long : length (take 6 b) ≡ 6
     six-long = length-take-le 6 b (omega arith)
@@ -120,7 +119,7 @@ module _ (b : List ℕ) (l : length b ≡ 13) where
     values-are : valuesOf nineteen b ≡ take 6 b ++ (h ∷ r ∷ getD b 12 0 ∷ [])
     values-are =
         values-told
-        ∙ ap₂ (λ (x y : ℕ). take 6 b ++ (x ∷ y ∷ getD b 12 0 ∷ [])) (fieldAt-value b 6 3 h ph .3) (fieldAt-value b 9 3 r pr .3)
+        ∙ ap₂ (λ (x y : ℕ). take 6 b ++ (x ∷ y ∷ getD b 12 0 ∷ [])) (first-time b 6 (omega arith) t e g) (second-time b 6 (omega arith) t e g)
 
     timed-told : nineteenTimed (valuesOf nineteen b) ≡ timesRight h r
     timed-told =
@@ -138,17 +137,17 @@ module _ (b : List ℕ) (l : length b ≡ 13) where
         )
 
     pub wrong-times : timesRight h r ≡ false → firstFail (bodyRows nineteen b) ≡ 12
-    wrong-times e = fails-times nineteen b within-range refl sized good-digits (timed-told ∙ e)
+    wrong-times m = fails-times nineteen b within-range refl sized good-digits (timed-told ∙ m)
 
-    module _ (t : timesRight h r ≡ true) where
+    module _ (m : timesRight h r ≡ true) where
       pub wrong-code : codeFits (take 6 b) h r ≡ false → firstFail (bodyRows nineteen b) ≡ 13
       wrong-code e =
-          fails-fields nineteen b within-range refl sized good-digits (timed-told ∙ t)
+          fails-fields nineteen b within-range refl sized good-digits (timed-told ∙ m)
           (ruled-told ∙ ap (λ (x : Bool). x && stateRight (getD b 12 0)) e)
 
       pub wrong-state : stateRight (getD b 12 0) ≡ false → firstFail (bodyRows nineteen b) ≡ 13
       wrong-state e =
-          fails-fields nineteen b within-range refl sized good-digits (timed-told ∙ t)
+          fails-fields nineteen b within-range refl sized good-digits (timed-told ∙ m)
           (ruled-told ∙ ap (λ (x : Bool). codeFits (take 6 b) h r && x) e ∙ and-false (codeFits (take 6 b) h r))
 
       accepted : (n : ℕ) → codeFits (take 6 b) h r ≡ true → stateRight (getD b 12 0) ≡ true
@@ -157,7 +156,7 @@ module _ (b : List ℕ) (l : length b ≡ 13) where
             halt = record { seq = n; code = take 6 b; event = eventOf (take 6 b) h r; state = sendingOf (getD b 12 0) };
           }
       accepted n p q =
-          reading-of n b 0 (fails-none nineteen b within-range refl sized good-digits (timed-told ∙ t) (ruled-told ∙ and-both p q))
+          reading-of n b 0 (fails-none nineteen b within-range refl sized good-digits (timed-told ∙ m) (ruled-told ∙ and-both p q))
           ∙ ap₂ (λ (k : ℕ) (m : Halt). record { answer = Accepted (record { format = 19; seq = n; length = 13 + k }); halt = m }) l
           (ap (haltOf n) values-are ∙ halt-of-joined (take 6 b) six-long h r (getD b 12 0) n)
 

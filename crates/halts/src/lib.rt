@@ -10,7 +10,7 @@ ghost use Rattle.frame.specs.Codec.{legal, frameOf};
 ghost use Rattle.frame.specs.Times.{every};
 ghost use Rattle.frame.specs.declared.answer.Answer.the-variants.{Refused};
 ghost use Rattle.halts.specs.Halts.{nineteenCells, haltReading, nineteenCodec, resumeNumber, haltNumber, resumeNumberOf, sendingByte, haltValues, sameResume, tidyEvent, roundTimes, timesRight, digitByte, codeFits, stateRight, asciiFrom, resumeOf, eventOf, sendingOf, noHalt};
-use digits::fields::Field;
+use digits::halves::six_at;
 use frame::answer::Answer;
 use frame::answer::Frame;
 use frame::answer::Written;
@@ -209,16 +209,12 @@ pub fn read(body: &[u8], seq: u32) -> HaltReading
     if n != 13 {
         return refused(9, 13 + n);
     }
-    let halted = digits::fields::read(body, 6, 3);
-    let Field::Value(x) = halted else {
+    let times = six_at(body, 6);
+    if !times.good {
         return refused(11, 26);
-    };
-    let resumed = digits::fields::read(body, 9, 3);
-    let Field::Value(y) = resumed else {
-        return refused(11, 26);
-    };
-    let h = x as u32;
-    let r = y as u32;
+    }
+    let h = times.first * 100 + times.last / 1000000;
+    let r = times.last % 1000000;
     if !times_right(h, r) {
         return refused(12, 26);
     }

@@ -1,39 +1,52 @@
 -- `read` meets its contract: a law for each answer.
-use Prim.Native.Nat.{ℕ}
+use Prim.Native.Nat.{ℕ, _+_, _*_, _/_, _%_, _≤_}
 use mathlib.Core.Path.{_≡_, refl, sym, ap, _∙_}
 use mathlib.Core.Bool.{true, false}
 use mathlib.Core.List.{List}
 use native.Mathlib.Omega.{arith}
 use borrow.Author.Tests.{not-true, not-false}
 use lib.ListN.{length, getD, take}
-use Rattle.digits.specs.Fields.{fieldAt}
-use Rattle.digits.specs.declared.fields.Field.{Field}
+use Rattle.digits.specs.Halves.{halvesAt}
+use Rattle.digits.specs.declared.halves.Halves.{Halves}
 use Rattle.halts.specs.Halts.{timesRight, codeFits, stateRight}
-use Rattle.halts.proofs.FieldAnswers.{bad-digits, read-lt}
-use Rattle.halts.proofs.ReadLaws.{refused-as, wrong-length, bad-halt, bad-resume, wrong-times, wrong-code, wrong-state, accepted-as}
+use Rattle.halts.proofs.TimeLaws.{first-small, last-small}
+use Rattle.halts.proofs.ReadLaws.{refused-as, wrong-length, bad-times, wrong-times, wrong-code, wrong-state, accepted-as}
 use borrow.Author.Needs.{needs}
 use Rattle.halts.proofs.read.Statement.{statement}
 use Rattle.halts.proofs.read.Tie as tie
 use Rattle.frame.proofs.RuleLaws.{code-in}
 
--- ---- where both times are read: the body, its times, and what is known of them
-abbrev bytes : tie.After-known-told2 → List ℕ
-bytes k = k .before .before .before .before .before .before .before .before .before .before .args .body .now
+-- ---- where the digits of both times are good: the body, its times, and what is known of them
+abbrev bytes : tie.Else2 → List ℕ
+bytes k = k .before .before .before .before .before .args .body .now
 
-abbrev halt-at : tie.After-known-told2 → ℕ
-halt-at k = k .before .before .before .before .before .halted .given .0 .0
+abbrev number : tie.Else2 → ℕ
+number k = k .before .before .before .before .before .args .seq
 
-abbrev resume-at : tie.After-known-told2 → ℕ
-resume-at k = k .before .resumed .given .0 .0
+abbrev times : tie.Else2 → Halves
+times k = k .before .before .six-at .result
 
-long : (k : tie.After-known-told2) → length (bytes k) ≡ 13
-long k = k .before .before .before .before .before .before .before .before .if1 .left
+abbrev halt-at : tie.Else2 → ℕ
+halt-at k = times k .first * 100 + times k .last / 1000000
 
-halt-read : (k : tie.After-known-told2) → fieldAt (bytes k) 6 3 ≡ Field.Value (halt-at k)
-halt-read k = sym (k .before .before .before .before .before .before .before .read .ensures) ∙ k .before .before .before .before .before .halted .given .1
+abbrev resume-at : tie.Else2 → ℕ
+resume-at k = times k .last % 1000000
 
-resume-read : (k : tie.After-known-told2) → fieldAt (bytes k) 9 3 ≡ Field.Value (resume-at k)
-resume-read k = sym (k .before .before .before .read2 .ensures) ∙ k .before .resumed .given .1
+long : (k : tie.Else2) → length (bytes k) ≡ 13
+long k = k .before .before .before .if1 .left
+
+times-read : (k : tie.Else2) → times k ≡ halvesAt 6 2 (bytes k) 6
+times-read k = k .before .before .six-at .ensures
+
+times-good : (k : tie.Else2) → times k .good ≡ true
+times-good k = not-false _ (k .if2 .left)
+
+-- ---- where the times are right, and the code is read
+times-right : (k : tie.Else3) → timesRight (halt-at (k .before .before .before .before .before)) (resume-at (k .before .before .before .before .before)) ≡ true
+times-right k = sym (k .before .times-right .ensures) ∙ not-false _ (k .if3 .left)
+
+code-read : (k : tie.After-code-at) → k .code-at .result ≡ take 6 (bytes (k .before .before .before .before .before .before))
+code-read k = k .code-at .ensures ∙ code-in (bytes (k .before .before .before .before .before .before)) 0 (omega (arith, long (k .before .before .before .before .before .before)))
 
 add-refused : tie.Need-add-refused
 add-refused c = search needs
@@ -46,56 +59,41 @@ returns c =
     let a = c .before .before .before .args in
     refused-as (a .seq) (a .body .now) 9 refl refl (wrong-length (a .body .now) (c .before .if1 .taken)) _ refl (c .refused .result) (c .refused .ensures)
 
-read-requires : tie.Need-read-requires
-read-requires c κs = search needs
-
-enum-known-halted : tie.Need-enum-known-halted
-enum-known-halted c = search needs
+six-at-requires : tie.Need-six-at-requires
+six-at-requires c κs = search needs
 
 refused-requires-2 : tie.Need-refused-requires-2
 refused-requires-2 c κs = search needs
 
 returns-2 : tie.Need-returns-2
 returns-2 c =
-    let a = c .before .before .before .before .before .args in
-    let l : length (a .body .now) ≡ 13 = c .before .before .before .if1 .left in
-    let e = bad-digits (c .before .before .read .result) (a .body .now) 6 3 (c .before .before .read .ensures) (c .before .match .keys2) (omega arith) (omega arith) in
-    refused-as (a .seq) (a .body .now) 11 refl refl (bad-halt (a .body .now) l e) 26 (omega arith) (c .refused2 .result) (c .refused2 .ensures)
+    let a = c .before .before .before .before .before .before .args in
+    let t = c .before .before .before .six-at in
+    let l : length (a .body .now) ≡ 13 = c .before .before .before .before .if1 .left in
+    refused-as (a .seq) (a .body .now) 11 refl refl (bad-times (a .body .now) l (t .result) (t .ensures) (not-true _ (c .before .if2 .taken))) 26 (omega arith) (c .refused2 .result) (c .refused2 .ensures)
 
-read-requires-2 : tie.Need-read-requires-2
-read-requires-2 c κs = search needs
+mul-h : tie.Need-mul-h
+mul-h c =
+    let k = c .before in
+    omega (arith, first-small (bytes k) 6 (omega (arith, long k)) (times k) (times-read k) (times-good k))
 
-enum-known-resumed : tie.Need-enum-known-resumed
-enum-known-resumed c = search needs
+add-h : tie.Need-add-h
+add-h c =
+    let k = c .before .before in
+    let l : 6 + 6 ≤ length (bytes k) = omega (arith, long k) in
+    omega (arith, first-small (bytes k) 6 l (times k) (times-read k) (times-good k), last-small (bytes k) 6 l (times k) (times-read k) (times-good k))
+
+times-right-requires : tie.Need-times-right-requires
+times-right-requires c κs = search needs
 
 refused-requires-3 : tie.Need-refused-requires-3
 refused-requires-3 c κs = search needs
 
 returns-3 : tie.Need-returns-3
 returns-3 c =
-    let a = c .before .before .before .before .before .before .before .before .before .args in
-    let l : length (a .body .now) ≡ 13 = c .before .before .before .before .before .before .before .if1 .left in
-    let e = bad-digits (c .before .before .read2 .result) (a .body .now) 9 3 (c .before .before .read2 .ensures) (c .before .match2 .keys2) (omega arith) (omega arith) in
-    refused-as (a .seq) (a .body .now) 11 refl refl (bad-resume (a .body .now) l e) 26 (omega arith) (c .refused3 .result) (c .refused3 .ensures)
-
-cast-h : tie.Need-cast-h
-cast-h c = omega (arith, read-lt (bytes c) 6 3 (halt-at c) (halt-read c))
-
-cast-r : tie.Need-cast-r
-cast-r c = omega (arith, read-lt (bytes c) 9 3 (resume-at c) (resume-read c))
-
-times-right-requires : tie.Need-times-right-requires
-times-right-requires c κs = search needs
-
-refused-requires-4 : tie.Need-refused-requires-4
-refused-requires-4 c κs = search needs
-
-returns-4 : tie.Need-returns-4
-returns-4 c =
-    let k = c .before .before .before in
-    let s = c .before .before .before .before .before .before .before .before .before .before .before .before .before .args .seq in
-    let t : timesRight (halt-at k) (resume-at k) ≡ false = sym (c .before .before .times-right .ensures) ∙ not-true _ (c .before .if2 .taken) in
-    refused-as s (bytes k) 12 refl refl (wrong-times (bytes k) (long k) (halt-at k) (resume-at k) (halt-read k) (resume-read k) t) 26 (omega (arith, long k)) (c .refused4 .result) (c .refused4 .ensures)
+    let k = c .before .before .before .before .before .before in
+    let t : timesRight (halt-at k) (resume-at k) ≡ false = sym (c .before .before .times-right .ensures) ∙ not-true _ (c .before .if3 .taken) in
+    refused-as (number k) (bytes k) 12 refl refl (wrong-times (bytes k) (long k) (times k) (times-read k) (times-good k) t) 26 (omega (arith, long k)) (c .refused3 .result) (c .refused3 .ensures)
 
 code-at-requires : tie.Need-code-at-requires
 code-at-requires c κs = search needs
@@ -109,31 +107,27 @@ slice-aggregate-code-fits c = search needs
 code-fits-requires : tie.Need-code-fits-requires
 code-fits-requires c κs = search needs
 
+refused-requires-4 : tie.Need-refused-requires-4
+refused-requires-4 c κs = search needs
+
+returns-4 : tie.Need-returns-4
+returns-4 c =
+    let k = c .before .before .before .before .before .before .before .before .before .before .before in
+    let f : codeFits (take 6 (bytes k)) (halt-at k) (resume-at k) ≡ false =
+    ap (λ (x : List ℕ). codeFits x (halt-at k) (resume-at k)) (sym (code-read (c .before .before .before .before .before))) ∙ sym (c .before .before .code-fits .ensures) ∙ not-true _ (c .before .if4 .taken) in
+    refused-as (number k) (bytes k) 13 refl refl (wrong-code (bytes k) (long k) (times k) (times-read k) (times-good k) (times-right (c .before .before .before .before .before .before)) f) 26 (omega (arith, long k)) (c .refused4 .result) (c .refused4 .ensures)
+
+state-right-requires : tie.Need-state-right-requires
+state-right-requires c κs = search needs
+
 refused-requires-5 : tie.Need-refused-requires-5
 refused-requires-5 c κs = search needs
 
 returns-5 : tie.Need-returns-5
 returns-5 c =
-    let k = c .before .before .before .before .before .before .before .before in
-    let s = c .before .before .before .before .before .before .before .before .before .before .before .before .before .before .before .before .before .before .args .seq in
-    let t : timesRight (halt-at k) (resume-at k) ≡ true = sym (c .before .before .before .before .before .before .before .times-right .ensures) ∙ not-false _ (c .before .before .before .before .before .before .if2 .left) in
-    let f : codeFits (take 6 (bytes k)) (halt-at k) (resume-at k) ≡ false =
-    ap (λ (x : List ℕ). codeFits x (halt-at k) (resume-at k)) (sym (c .before .before .before .before .before .code-at .ensures ∙ code-in (bytes k) 0 (omega (arith, long k)))) ∙ sym (c .before .before .code-fits .ensures) ∙ not-true _ (c .before .if3 .taken) in
-    refused-as s (bytes k) 13 refl refl (wrong-code (bytes k) (long k) (halt-at k) (resume-at k) (halt-read k) (resume-read k) t f) 26 (omega (arith, long k)) (c .refused5 .result) (c .refused5 .ensures)
-
-state-right-requires : tie.Need-state-right-requires
-state-right-requires c κs = search needs
-
-refused-requires-6 : tie.Need-refused-requires-6
-refused-requires-6 c κs = search needs
-
-returns-6 : tie.Need-returns-6
-returns-6 c =
-    let k = c .before .before .before .before .before .before .before .before .before .before in
-    let s = c .before .before .before .before .before .before .before .before .before .before .before .before .before .before .before .before .before .before .before .before .args .seq in
-    let t : timesRight (halt-at k) (resume-at k) ≡ true = sym (c .before .before .before .before .before .before .before .before .before .times-right .ensures) ∙ not-false _ (c .before .before .before .before .before .before .before .before .if2 .left) in
-    let q : stateRight (getD (bytes k) 12 0) ≡ false = sym (c .before .before .state-right .ensures) ∙ not-true _ (c .before .if4 .taken) in
-    refused-as s (bytes k) 13 refl refl (wrong-state (bytes k) (long k) (halt-at k) (resume-at k) (halt-read k) (resume-read k) t q) 26 (omega (arith, long k)) (c .refused6 .result) (c .refused6 .ensures)
+    let k = c .before .before .before .before .before .before .before .before .before .before .before .before .before in
+    let q : stateRight (getD (bytes k) 12 0) ≡ false = sym (c .before .before .state-right .ensures) ∙ not-true _ (c .before .if5 .taken) in
+    refused-as (number k) (bytes k) 13 refl refl (wrong-state (bytes k) (long k) (times k) (times-read k) (times-good k) (times-right (c .before .before .before .before .before .before .before .before)) q) 26 (omega (arith, long k)) (c .refused5 .result) (c .refused5 .ensures)
 
 slice-aggregate-event-of : tie.Need-slice-aggregate-event-of
 slice-aggregate-event-of c = search needs
@@ -144,16 +138,14 @@ event-of-requires c κs = search needs
 sending-of-requires : tie.Need-sending-of-requires
 sending-of-requires c κs = search needs
 
-returns-7 : tie.Need-returns-7
-returns-7 c =
-    let k = c .before .before .before .before .before .before .before .before .before .before .before .before in
-    let s = c .before .before .before .before .before .before .before .before .before .before .before .before .before .before .before .before .before .before .before .before .before .before .args .seq in
-    let t : timesRight (halt-at k) (resume-at k) ≡ true = sym (c .before .before .before .before .before .before .before .before .before .before .before .times-right .ensures) ∙ not-false _ (c .before .before .before .before .before .before .before .before .before .before .if2 .left) in
-    let e : c .before .before .before .before .before .before .before .before .before .code-at .result ≡ take 6 (bytes k) = c .before .before .before .before .before .before .before .before .before .code-at .ensures ∙ code-in (bytes k) 0 (omega (arith, long k)) in
+returns-6 : tie.Need-returns-6
+returns-6 c =
+    let k = c .before .before .before .before .before .before .before .before .before .before .before .before .before .before .before in
+    let e = code-read (c .before .before .before .before .before .before .before .before .before) in
     let f : codeFits (take 6 (bytes k)) (halt-at k) (resume-at k) ≡ true =
-    ap (λ (x : List ℕ). codeFits x (halt-at k) (resume-at k)) (sym e) ∙ sym (c .before .before .before .before .before .before .code-fits .ensures) ∙ not-false _ (c .before .before .before .before .before .if3 .left) in
-    let q : stateRight (getD (bytes k) 12 0) ≡ true = sym (c .before .before .before .before .state-right .ensures) ∙ not-false _ (c .before .before .before .if4 .left) in
-    accepted-as (bytes k) (long k) (halt-at k) (resume-at k) (halt-read k) (resume-read k) t s f q (c .before .before .before .before .before .before .before .before .before .code-at .result) (c .before .event-of .result) (c .sending-of .result) e
+    ap (λ (x : List ℕ). codeFits x (halt-at k) (resume-at k)) (sym e) ∙ sym (c .before .before .before .before .before .before .code-fits .ensures) ∙ not-false _ (c .before .before .before .before .before .if4 .left) in
+    let q : stateRight (getD (bytes k) 12 0) ≡ true = sym (c .before .before .before .before .state-right .ensures) ∙ not-false _ (c .before .before .before .if5 .left) in
+    accepted-as (bytes k) (long k) (times k) (times-read k) (times-good k) (times-right (c .before .before .before .before .before .before .before .before .before .before)) (number k) f q (c .before .before .before .before .before .before .before .before .before .code-at .result) (c .before .event-of .result) (c .sending-of .result) e
     (c .before .event-of .ensures) (c .sending-of .ensures)
 
 pub read-spec : {M : Type 1} → statement M
@@ -163,29 +155,24 @@ read-spec =
     add-refused
     refused-requires
     returns
-    read-requires
-    enum-known-halted
+    six-at-requires
     refused-requires-2
     returns-2
-    read-requires-2
-    enum-known-resumed
+    mul-h
+    add-h
+    times-right-requires
     refused-requires-3
     returns-3
-    cast-h
-    cast-r
-    times-right-requires
-    refused-requires-4
-    returns-4
     code-at-requires
     shared-slice-read-s
     slice-aggregate-code-fits
     code-fits-requires
+    refused-requires-4
+    returns-4
+    state-right-requires
     refused-requires-5
     returns-5
-    state-right-requires
-    refused-requires-6
-    returns-6
     slice-aggregate-event-of
     event-of-requires
     sending-of-requires
-    returns-7)
+    returns-6)
