@@ -2,12 +2,13 @@
 ghost use mathlib.Core.Path.{_≡_};
 ghost use mathlib.Core.Bool.{true};
 ghost use Prim.Native.Nat.{_+_, _-_, _≤_};
-ghost use lib.ListN.{length, take};
+ghost use lib.ListN.{length, take, drop};
 ghost use lib.Seq.{sets};
+ghost use Rattle.digits.specs.Packed.{good, value};
 ghost use Rattle.frame.specs.Cells.{encode};
 ghost use Rattle.frame.specs.Writing.{writeAnswer, writtenOver};
 ghost use Rattle.frame.specs.Codec.{legal, frameOf};
-ghost use Rattle.frame.specs.Times.{every};
+ghost use Rattle.frame.specs.Times.{every, timeOfDay};
 ghost use Rattle.frame.specs.declared.answer.Answer.the-variants.{Refused};
 ghost use Rattle.halts.specs.Halts.{nineteenCells, haltReading, nineteenCodec, resumeNumber, haltNumber, resumeNumberOf, sendingByte, haltValues, sameResume, tidyEvent, roundTimes, timesRight, digitByte, codeFits, stateRight, asciiFrom, resumeOf, eventOf, sendingOf, noHalt};
 use digits::halves::six_at;
@@ -69,20 +70,35 @@ fn round_times(h: u32, r: u32) -> bool
     r == NINES
 }
 
-// A round's end, or a time of day and a resume that is open or a time of day.
-fn times_right(h: u32, r: u32) -> bool
+// A round's end, or a time of day and a resume that is open or a time of day; the caller tells which is a time of day.
+fn times_right(h: u32, r: u32, hday: bool, rday: bool) -> bool
+    requires { ⌜ (hday ≡ timeOfDay 0 h) × (rday ≡ timeOfDay 0 r) ⌝ }
     ensures { λ x. ⌜ x ≡ timesRight h r ⌝ }
 {
     if round_times(h, r) {
         return true;
     }
-    if !time_of_day(h) {
+    if !hday {
         return false;
     }
     if r == NINES {
         return true;
     }
-    time_of_day(r)
+    rday
+}
+
+// Three bytes of good digits from a place on are a time of day.
+fn day_at(s: &[u8], at: usize) -> bool
+    requires { ⌜ (at + 3 ≤ length (now s)) × (good (take 3 (drop at (now s))) ≡ true) ⌝ }
+    ensures { λ r. ⌜ r ≡ timeOfDay 0 (value (take 3 (drop at (now (s .entry))))) ⌝ }
+{
+    if 0x24 <= s[at] {
+        return false;
+    }
+    if 0x60 <= s[at + 1] {
+        return false;
+    }
+    s[at + 2] < 0x60
 }
 
 fn digit_byte(b: u8) -> bool
@@ -215,7 +231,9 @@ pub fn read(body: &[u8], seq: u32) -> HaltReading
     }
     let h = times.first * 100 + times.last / 1000000;
     let r = times.last % 1000000;
-    if !times_right(h, r) {
+    let hday = day_at(body, 6);
+    let rday = day_at(body, 9);
+    if !times_right(h, r, hday, rday) {
         return refused(12, 26);
     }
     let code = code_at(body, 0);
@@ -317,7 +335,7 @@ fn is_legal(m: Halt) -> bool
     }
     let h = halt_time(event);
     let r = resume_time(event);
-    if !times_right(h, r) {
+    if !times_right(h, r, time_of_day(h), time_of_day(r)) {
         return false;
     }
     if !code_fits(&code, h, r) {

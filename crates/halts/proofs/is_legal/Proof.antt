@@ -11,17 +11,17 @@ use Rattle.halts.proofs.is_legal.Statement.{statement}
 use Rattle.halts.proofs.is_legal.Tie as tie
 
 abbrev halt : tie.After-times-right → Halt
-halt k = k .before .before .before .before .before .before .args .m
+halt k = k .before .before .before .before .before .before .before .before .args .m
 
 shaped : (m : Halt) → length (m .code) ≡ 6 → ShapedHalt m
 shaped m l = record { code-long = l }
 
 times : (k : tie.After-times-right) → k .times-right .result ≡ timesRight (haltNumber (halt k .event)) (resumeNumberOf (halt k .event))
-times k = k .times-right .ensures ∙ ap₂ timesRight (k .before .before .halt-time .ensures) (k .before .resume-time .ensures)
+times k = k .times-right .ensures ∙ ap₂ timesRight (k .before .before .before .before .halt-time .ensures) (k .before .before .before .resume-time .ensures)
 
 code-told : (k : tie.After-code-fits) → k .code-fits .result
     ≡ codeFits (halt (k .before .before .before) .code) (haltNumber (halt (k .before .before .before) .event)) (resumeNumberOf (halt (k .before .before .before) .event))
-code-told k = k .code-fits .ensures ∙ ap₂ (codeFits (halt (k .before .before .before) .code)) (k .before .before .before .before .before .halt-time .ensures) (k .before .before .before .before .resume-time .ensures)
+code-told k = k .code-fits .ensures ∙ ap₂ (codeFits (halt (k .before .before .before) .code)) (k .before .before .before .before .before .before .before .halt-time .ensures) (k .before .before .before .before .before .before .resume-time .ensures)
 
 returns : tie.Need-returns
 returns c =
@@ -34,6 +34,12 @@ halt-time-requires c κs = search needs
 
 resume-time-requires : tie.Need-resume-time-requires
 resume-time-requires c κs = search needs
+
+time-of-day-requires : tie.Need-time-of-day-requires
+time-of-day-requires c κs = search needs
+
+time-of-day-requires-2 : tie.Need-time-of-day-requires-2
+time-of-day-requires-2 c κs = search needs
 
 times-right-requires : tie.Need-times-right-requires
 times-right-requires c κs = search needs
@@ -54,7 +60,7 @@ returns-3 : tie.Need-returns-3
 returns-3 c =
     let k = c .before .before .before .before in
     let l : length (halt k .code) ≡ 6 = search needs in
-    sym (illegal-code (halt k) (shaped (halt k) l) (omega (arith, c .before .before .before .before .before .before .before .if1 .left)) (sym (times k) ∙ not-false _ (c .before .before .before .if2 .left)) (sym (code-told (c .before)) ∙ not-true _ (c .if3 .taken)))
+    sym (illegal-code (halt k) (shaped (halt k) l) (omega (arith, c .before .before .before .before .before .before .before .before .before .if1 .left)) (sym (times k) ∙ not-false _ (c .before .before .before .if2 .left)) (sym (code-told (c .before)) ∙ not-true _ (c .if3 .taken)))
 
 slice-aggregate-tidy-event : tie.Need-slice-aggregate-tidy-event
 slice-aggregate-tidy-event c = search needs
@@ -67,7 +73,7 @@ returns-4 c =
     let k = c .before .before .before .before .before .before in
     let l : length (halt k .code) ≡ 6 = search needs in
     c .tidy-event .ensures
-    ∙ sym (legal-rest (halt k) (shaped (halt k) l) (omega (arith, c .before .before .before .before .before .before .before .before .before .if1 .left)) (sym (times k) ∙ not-false _ (c .before .before .before .before .before .if2 .left)) (sym (code-told (c .before .before .before)) ∙ not-false _ (c .before .before .if3 .left)))
+    ∙ sym (legal-rest (halt k) (shaped (halt k) l) (omega (arith, c .before .before .before .before .before .before .before .before .before .before .before .if1 .left)) (sym (times k) ∙ not-false _ (c .before .before .before .before .before .if2 .left)) (sym (code-told (c .before .before .before)) ∙ not-false _ (c .before .before .if3 .left)))
 
 pub is-legal-spec : {M : Type 1} → statement M
 is-legal-spec =
@@ -76,6 +82,8 @@ is-legal-spec =
     returns
     halt-time-requires
     resume-time-requires
+    time-of-day-requires
+    time-of-day-requires-2
     times-right-requires
     returns-2
     slice-aggregate-code-fits

@@ -8,8 +8,9 @@ use borrow.Author.Tests.{not-true, not-false}
 use lib.ListN.{length, getD, take}
 use Rattle.digits.specs.Halves.{halvesAt}
 use Rattle.digits.specs.declared.halves.Halves.{Halves}
+use Rattle.frame.specs.Times.{timeOfDay}
 use Rattle.halts.specs.Halts.{timesRight, codeFits, stateRight}
-use Rattle.halts.proofs.TimeLaws.{first-small, last-small}
+use Rattle.halts.proofs.TimeLaws.{first-small, last-small, first-good, second-good, first-time, second-time}
 use Rattle.halts.proofs.ReadLaws.{refused-as, wrong-length, bad-times, wrong-times, wrong-code, wrong-state, accepted-as}
 use borrow.Author.Needs.{needs}
 use Rattle.halts.proofs.read.Statement.{statement}
@@ -35,6 +36,9 @@ resume-at k = times k .last % 1000000
 long : (k : tie.Else2) → length (bytes k) ≡ 13
 long k = k .before .before .before .if1 .left
 
+inside : (k : tie.Else2) → 6 + 6 ≤ length (bytes k)
+inside k = omega (arith, long k)
+
 times-read : (k : tie.Else2) → times k ≡ halvesAt 6 2 (bytes k) 6
 times-read k = k .before .before .six-at .ensures
 
@@ -42,11 +46,11 @@ times-good : (k : tie.Else2) → times k .good ≡ true
 times-good k = not-false _ (k .if2 .left)
 
 -- ---- where the times are right, and the code is read
-times-right : (k : tie.Else3) → timesRight (halt-at (k .before .before .before .before .before)) (resume-at (k .before .before .before .before .before)) ≡ true
+times-right : (k : tie.Else3) → timesRight (halt-at (k .before .before .before .before .before .before .before)) (resume-at (k .before .before .before .before .before .before .before)) ≡ true
 times-right k = sym (k .before .times-right .ensures) ∙ not-false _ (k .if3 .left)
 
-code-read : (k : tie.After-code-at) → k .code-at .result ≡ take 6 (bytes (k .before .before .before .before .before .before))
-code-read k = k .code-at .ensures ∙ code-in (bytes (k .before .before .before .before .before .before)) 0 (omega (arith, long (k .before .before .before .before .before .before)))
+code-read : (k : tie.After-code-at) → k .code-at .result ≡ take 6 (bytes (k .before .before .before .before .before .before .before .before))
+code-read k = k .code-at .ensures ∙ code-in (bytes (k .before .before .before .before .before .before .before .before)) 0 (omega (arith, long (k .before .before .before .before .before .before .before .before)))
 
 add-refused : tie.Need-add-refused
 add-refused c = search needs
@@ -75,23 +79,36 @@ returns-2 c =
 mul-h : tie.Need-mul-h
 mul-h c =
     let k = c .before in
-    omega (arith, first-small (bytes k) 6 (omega (arith, long k)) (times k) (times-read k) (times-good k))
+    omega (arith, first-small (bytes k) 6 (inside k) (times k) (times-read k) (times-good k))
 
 add-h : tie.Need-add-h
 add-h c =
     let k = c .before .before in
-    let l : 6 + 6 ≤ length (bytes k) = omega (arith, long k) in
-    omega (arith, first-small (bytes k) 6 l (times k) (times-read k) (times-good k), last-small (bytes k) 6 l (times k) (times-read k) (times-good k))
+    omega (arith, first-small (bytes k) 6 (inside k) (times k) (times-read k) (times-good k), last-small (bytes k) 6 (inside k) (times k) (times-read k) (times-good k))
+
+day-at-requires : tie.Need-day-at-requires
+day-at-requires c κs =
+    let k = c .before .before .before in
+    (omega (arith, long k), first-good (bytes k) 6 (inside k) (times k) (times-read k) (times-good k))
+
+day-at-requires-2 : tie.Need-day-at-requires-2
+day-at-requires-2 c κs =
+    let k = c .before .before .before .before in
+    (omega (arith, long k), second-good (bytes k) 6 (inside k) (times k) (times-read k) (times-good k))
 
 times-right-requires : tie.Need-times-right-requires
-times-right-requires c κs = search needs
+times-right-requires c κs =
+    let k = c .before .before .before .before .before in (
+      c .before .day-at .ensures ∙ ap (timeOfDay 0) (first-time (bytes k) 6 (inside k) (times k) (times-read k) (times-good k)),
+      c .day-at2 .ensures ∙ ap (timeOfDay 0) (second-time (bytes k) 6 (inside k) (times k) (times-read k) (times-good k)),
+    )
 
 refused-requires-3 : tie.Need-refused-requires-3
 refused-requires-3 c κs = search needs
 
 returns-3 : tie.Need-returns-3
 returns-3 c =
-    let k = c .before .before .before .before .before .before in
+    let k = c .before .before .before .before .before .before .before .before in
     let t : timesRight (halt-at k) (resume-at k) ≡ false = sym (c .before .before .times-right .ensures) ∙ not-true _ (c .before .if3 .taken) in
     refused-as (number k) (bytes k) 12 refl refl (wrong-times (bytes k) (long k) (times k) (times-read k) (times-good k) t) 26 (omega (arith, long k)) (c .refused3 .result) (c .refused3 .ensures)
 
@@ -112,7 +129,7 @@ refused-requires-4 c κs = search needs
 
 returns-4 : tie.Need-returns-4
 returns-4 c =
-    let k = c .before .before .before .before .before .before .before .before .before .before .before in
+    let k = c .before .before .before .before .before .before .before .before .before .before .before .before .before in
     let f : codeFits (take 6 (bytes k)) (halt-at k) (resume-at k) ≡ false =
     ap (λ (x : List ℕ). codeFits x (halt-at k) (resume-at k)) (sym (code-read (c .before .before .before .before .before))) ∙ sym (c .before .before .code-fits .ensures) ∙ not-true _ (c .before .if4 .taken) in
     refused-as (number k) (bytes k) 13 refl refl (wrong-code (bytes k) (long k) (times k) (times-read k) (times-good k) (times-right (c .before .before .before .before .before .before)) f) 26 (omega (arith, long k)) (c .refused4 .result) (c .refused4 .ensures)
@@ -125,7 +142,7 @@ refused-requires-5 c κs = search needs
 
 returns-5 : tie.Need-returns-5
 returns-5 c =
-    let k = c .before .before .before .before .before .before .before .before .before .before .before .before .before in
+    let k = c .before .before .before .before .before .before .before .before .before .before .before .before .before .before .before in
     let q : stateRight (getD (bytes k) 12 0) ≡ false = sym (c .before .before .state-right .ensures) ∙ not-true _ (c .before .if5 .taken) in
     refused-as (number k) (bytes k) 13 refl refl (wrong-state (bytes k) (long k) (times k) (times-read k) (times-good k) (times-right (c .before .before .before .before .before .before .before .before)) q) 26 (omega (arith, long k)) (c .refused5 .result) (c .refused5 .ensures)
 
@@ -140,7 +157,7 @@ sending-of-requires c κs = search needs
 
 returns-6 : tie.Need-returns-6
 returns-6 c =
-    let k = c .before .before .before .before .before .before .before .before .before .before .before .before .before .before .before in
+    let k = c .before .before .before .before .before .before .before .before .before .before .before .before .before .before .before .before .before in
     let e = code-read (c .before .before .before .before .before .before .before .before .before) in
     let f : codeFits (take 6 (bytes k)) (halt-at k) (resume-at k) ≡ true =
     ap (λ (x : List ℕ). codeFits x (halt-at k) (resume-at k)) (sym e) ∙ sym (c .before .before .before .before .before .before .code-fits .ensures) ∙ not-false _ (c .before .before .before .before .before .if4 .left) in
@@ -160,6 +177,8 @@ read-spec =
     returns-2
     mul-h
     add-h
+    day-at-requires
+    day-at-requires-2
     times-right-requires
     refused-requires-3
     returns-3

@@ -14,26 +14,20 @@ returns c =
     let a = c .before .before .args in
     sym (times-round (a .h) (a .r) (sym (c .before .round-times .ensures) ∙ c .if1 .taken))
 
-time-of-day-requires : tie.Need-time-of-day-requires
-time-of-day-requires c κs = search needs
-
 returns-2 : tie.Need-returns-2
 returns-2 c =
-    let a = c .before .before .before .before .args in
-    sym (times-no-day (a .h) (a .r) (sym (c .before .before .before .round-times .ensures) ∙ c .before .before .if1 .left) (sym (c .before .time-of-day .ensures) ∙ not-true _ (c .if2 .taken)))
+    let a = c .before .before .before .args in
+    sym (times-no-day (a .h) (a .r) (sym (c .before .before .round-times .ensures) ∙ c .before .if1 .left) (sym (c .before .before .before .pre .0) ∙ not-true _ (c .if2 .taken)))
 
 returns-3 : tie.Need-returns-3
 returns-3 c =
-    let a = c .before .before .before .before .before .args in
-    sym (times-open (a .h) (a .r) (sym (c .before .before .before .before .round-times .ensures) ∙ c .before .before .before .if1 .left) (sym (c .before .before .time-of-day .ensures) ∙ not-false _ (c .before .if2 .left)) (c .if3 .taken))
-
-time-of-day-requires-2 : tie.Need-time-of-day-requires-2
-time-of-day-requires-2 c κs = search needs
+    let a = c .before .before .before .before .args in
+    sym (times-open (a .h) (a .r) (sym (c .before .before .before .round-times .ensures) ∙ c .before .before .if1 .left) (sym (c .before .before .before .before .pre .0) ∙ not-false _ (c .before .if2 .left)) (c .if3 .taken))
 
 returns-4 : tie.Need-returns-4
 returns-4 c =
-    let a = c .before .before .before .before .before .before .args in
-    c .time-of-day2 .ensures ∙ sym (times-both (a .h) (a .r) (sym (c .before .before .before .before .before .round-times .ensures) ∙ c .before .before .before .before .if1 .left) (sym (c .before .before .before .time-of-day .ensures) ∙ not-false _ (c .before .before .if2 .left)) (c .before .if3 .left))
+    let a = c .before .before .before .before .args in
+    c .before .before .before .before .pre .1 ∙ sym (times-both (a .h) (a .r) (sym (c .before .before .before .round-times .ensures) ∙ c .before .before .if1 .left) (sym (c .before .before .before .before .pre .0) ∙ not-false _ (c .before .if2 .left)) (c .if3 .left))
 
 pub times-right-spec : {M : Type 1} → statement M
 times-right-spec =
@@ -41,8 +35,6 @@ times-right-spec =
     (tie.spec
     round-times-requires
     returns
-    time-of-day-requires
     returns-2
     returns-3
-    time-of-day-requires-2
     returns-4)
