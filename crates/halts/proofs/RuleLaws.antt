@@ -1,7 +1,7 @@
 -- The rules on a body's numbers and its event, one law for each way through the code.
 use Prim.Native.Nat.{ℕ}
 use mathlib.Core.Path.{_≡_, refl, ap, _∙_}
-use mathlib.Core.Bool.{Bool, true, false, cond, _&&_, not}
+use mathlib.Core.Bool.{Bool, true, false, cond, _&&_, not, and-false, or-true, or-false}
 use mathlib.Core.List.{List}
 use borrow.Author.Tests.{eq-eqb, ne-eqb}
 use lib.Dec.{eqb}
@@ -14,19 +14,15 @@ use Rattle.halts.specs.declared.Event.the-variants.{RoundEnd, Halted}
 
 module _ (h r : ℕ) where
   -- ---- both times
-  pub times-round : roundTimes h r ≡ true → timesRight h r ≡ true
-  times-round e = rw e
+  pub times-no-day : timeOfDay 0 h ≡ false → timesRight h r ≡ roundTimes h r
+  times-no-day d = rw d (or-false (roundTimes h r))
 
-  module _ (e : roundTimes h r ≡ false) where
-    pub times-no-day : timeOfDay 0 h ≡ false → timesRight h r ≡ false
-    times-no-day d = rw (e, d)
+  module _ (d : timeOfDay 0 h ≡ true) where
+    pub times-open : r ≡ nines 0 → timesRight h r ≡ true
+    times-open n = rw (d, eq-eqb r (nines 0) n) (or-true (eqb h (nines 0) && true))
 
-    module _ (d : timeOfDay 0 h ≡ true) where
-      pub times-open : r ≡ nines 0 → timesRight h r ≡ true
-      times-open n = rw (e, d, eq-eqb r (nines 0) n)
-
-      pub times-both : (r ≡ nines 0 → ⊥) → timesRight h r ≡ timeOfDay 0 r
-      times-both n = rw (e, d, ne-eqb r (nines 0) n)
+    pub times-both : (r ≡ nines 0 → ⊥) → timesRight h r ≡ timeOfDay 0 r
+    times-both n = rw (d, ne-eqb r (nines 0) n, and-false (eqb h (nines 0)))
 
   module _ (code : List ℕ) where
     -- ---- the code

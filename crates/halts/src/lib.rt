@@ -75,11 +75,8 @@ fn times_right(h: u32, r: u32, hday: bool, rday: bool) -> bool
     requires { ⌜ (hday ≡ timeOfDay 0 h) × (rday ≡ timeOfDay 0 r) ⌝ }
     ensures { λ x. ⌜ x ≡ timesRight h r ⌝ }
 {
-    if round_times(h, r) {
-        return true;
-    }
     if !hday {
-        return false;
+        return round_times(h, r);
     }
     if r == NINES {
         return true;
