@@ -1,12 +1,13 @@
 -- The rules on a body's numbers and its event, one law for each way through the code.
 use Prim.Native.Nat.{ℕ}
-use mathlib.Core.Path.{_≡_, refl, ap, _∙_}
+use mathlib.Core.Path.{_≡_, refl, sym, ap, _∙_}
 use mathlib.Core.Bool.{Bool, true, false, cond, _&&_, not, and-false, or-true, or-false}
 use mathlib.Core.List.{List}
 use borrow.Author.Tests.{eq-eqb, ne-eqb}
 use lib.Dec.{eqb}
 use Rattle.frame.specs.Times.{nines, timeOfDay, every, codeRight}
 use Rattle.halts.specs.Halts.{roundTimes, timesRight, digitByte, codeFits, asciiFrom, resumeOf, eventOf, sameResume, tidyEvent}
+use Rattle.halts.proofs.HaltLaws.{day-not-nines}
 use Rattle.halts.specs.declared.Resume.{Resume}
 use Rattle.halts.specs.declared.Resume.the-variants.{At}
 use Rattle.halts.specs.declared.Event.{Event}
@@ -24,24 +25,10 @@ module _ (h r : ℕ) where
     pub times-both : (r ≡ nines 0 → ⊥) → timesRight h r ≡ timeOfDay 0 r
     times-both n = rw (d, ne-eqb r (nines 0) n, and-false (eqb h (nines 0)))
 
-  module _ (code : List ℕ) where
-    -- ---- the code
-    pub code-wrong : codeRight code ≡ false → codeFits code h r ≡ false
-    code-wrong w = rw w
-
-    module _ (w : codeRight code ≡ true) where
-      pub code-round : roundTimes h r ≡ true → codeFits code h r ≡ every digitByte code
-      code-round e = rw (w, e)
-
-      pub code-halt : roundTimes h r ≡ false → codeFits code h r ≡ true
-      code-halt e = rw (w, e)
-
-    -- ---- the event
-    pub event-round : roundTimes h r ≡ true → eventOf code h r ≡ RoundEnd (asciiFrom 0 code)
-    event-round e = rw e
-
-    pub event-halt : roundTimes h r ≡ false → eventOf code h r ≡ Halted h (resumeOf r)
-    event-halt e = rw e
+  -- right times are a round's where the first is no time of day
+  pub round-told : (x : Bool) → x ≡ timeOfDay 0 h → timesRight h r ≡ true → not x ≡ roundTimes h r
+  round-told true d t = rw (day-not-nines h (sym d))
+  round-told false d t = sym (sym (times-no-day (sym d)) ∙ t)
 
 -- ---- an event that is tidy
 pub tidy-round : (code : List ℕ) (e : Event) (n : ℕ) → e ≡ RoundEnd n → tidyEvent code e ≡ eqb n (asciiFrom 0 code)

@@ -1,6 +1,6 @@
 // Format nineteen: trading halts.
 ghost use mathlib.Core.Path.{_≡_};
-ghost use mathlib.Core.Bool.{true};
+ghost use mathlib.Core.Bool.{true, cond, _&&_};
 ghost use Prim.Native.Nat.{_+_, _-_, _≤_};
 ghost use lib.ListN.{length, take, drop};
 ghost use lib.Seq.{sets};
@@ -8,9 +8,10 @@ ghost use Rattle.digits.specs.Packed.{good, value};
 ghost use Rattle.frame.specs.Cells.{encode};
 ghost use Rattle.frame.specs.Writing.{writeAnswer, writtenOver};
 ghost use Rattle.frame.specs.Codec.{legal, frameOf};
-ghost use Rattle.frame.specs.Times.{every, timeOfDay};
+ghost use Rattle.frame.specs.Times.{every, timeOfDay, codeRight};
 ghost use Rattle.frame.specs.declared.answer.Answer.the-variants.{Refused};
-ghost use Rattle.halts.specs.Halts.{nineteenCells, haltReading, nineteenCodec, resumeNumber, haltNumber, resumeNumberOf, sendingByte, haltValues, sameResume, tidyEvent, roundTimes, timesRight, digitByte, codeFits, stateRight, asciiFrom, resumeOf, eventOf, sendingOf, noHalt};
+ghost use Rattle.halts.specs.Halts.{nineteenCells, haltReading, nineteenCodec, resumeNumber, haltNumber, resumeNumberOf, sendingByte, haltValues, sameResume, tidyEvent, roundTimes, timesRight, digitByte, stateRight, asciiFrom, resumeOf, sendingOf, noHalt};
+ghost use Rattle.halts.specs.declared.Event.the-variants.{RoundEnd, Halted};
 use digits::halves::six_at;
 use frame::answer::Answer;
 use frame::answer::Frame;
@@ -70,18 +71,17 @@ fn round_times(h: u32, r: u32) -> bool
     r == NINES
 }
 
-// A round's end, or a time of day and a resume that is open or a time of day; the caller tells which is a time of day.
-fn times_right(h: u32, r: u32, hday: bool, rday: bool) -> bool
-    requires { ⌜ (hday ≡ timeOfDay 0 h) × (rday ≡ timeOfDay 0 r) ⌝ }
+// A round's end, or a time of day and a resume that is open or a time of day.
+fn times_right(h: u32, r: u32) -> bool
     ensures { λ x. ⌜ x ≡ timesRight h r ⌝ }
 {
-    if !hday {
+    if !time_of_day(h) {
         return round_times(h, r);
     }
     if r == NINES {
         return true;
     }
-    rday
+    time_of_day(r)
 }
 
 // Three bytes of good digits from a place on are a time of day.
@@ -96,6 +96,20 @@ fn day_at(s: &[u8], at: usize) -> bool
         return false;
     }
     s[at + 2] < 0x60
+}
+
+// The same of the times in a body, of which the first is known to be a time of day or not.
+fn body_times_right(body: &[u8], h: u32, r: u32, day: bool) -> bool
+    requires { ⌜ (12 ≤ length (now body)) × (good (take 3 (drop 9 (now body))) ≡ true) × (value (take 3 (drop 9 (now body))) ≡ r) × (day ≡ timeOfDay 0 h) ⌝ }
+    ensures { λ x. ⌜ x ≡ timesRight h r ⌝ }
+{
+    if !day {
+        return round_times(h, r);
+    }
+    if r == NINES {
+        return true;
+    }
+    day_at(body, 9)
 }
 
 fn digit_byte(b: u8) -> bool
@@ -123,13 +137,13 @@ fn all_digits(code: &[u8]) -> bool
 }
 
 // A code's bytes are in their range, and at a round's end they are digits.
-fn code_fits(code: &[u8], h: u32, r: u32) -> bool
-    ensures { λ x. ⌜ x ≡ codeFits (now (code .entry)) h r ⌝ }
+fn code_fits(code: &[u8], round: bool) -> bool
+    ensures { λ x. ⌜ x ≡ (codeRight (now (code .entry)) && cond round (every digitByte (now (code .entry))) true) ⌝ }
 {
     if !code_right(code) {
         return false;
     }
-    if round_times(h, r) {
+    if round {
         return all_digits(code);
     }
     true
@@ -174,11 +188,11 @@ fn resume_of(t: u32) -> Resume
     Resume::At(t)
 }
 
-fn event_of(code: &[u8], h: u32, r: u32) -> Event
+fn event_of(code: &[u8], round: bool, h: u32, r: u32) -> Event
     requires { ⌜ length (now code) ≡ 6 ⌝ }
-    ensures { λ e. ⌜ e ≡ eventOf (now (code .entry)) h r ⌝ }
+    ensures { λ e. ⌜ e ≡ cond round (RoundEnd (asciiFrom 0 (now (code .entry)))) (Halted h (resumeOf r)) ⌝ }
 {
-    if round_times(h, r) {
+    if round {
         return Event::RoundEnd(count_of(code));
     }
     Event::Halted(h, resume_of(r))
@@ -228,20 +242,20 @@ pub fn read(body: &[u8], seq: u32) -> HaltReading
     }
     let h = times.first * 100 + times.last / 1000000;
     let r = times.last % 1000000;
-    let hday = day_at(body, 6);
-    let rday = day_at(body, 9);
-    if !times_right(h, r, hday, rday) {
+    let day = day_at(body, 6);
+    if !body_times_right(body, h, r, day) {
         return refused(12, 26);
     }
+    let round = !day;
     let code = code_at(body, 0);
     let s = body[12];
-    if !code_fits(&code, h, r) {
+    if !code_fits(&code, round) {
         return refused(13, 26);
     }
     if !state_right(s) {
         return refused(13, 26);
     }
-    let event = event_of(&code, h, r);
+    let event = event_of(&code, round, h, r);
     let state = sending_of(s);
     let halt = Halt {
         seq,
@@ -332,10 +346,10 @@ fn is_legal(m: Halt) -> bool
     }
     let h = halt_time(event);
     let r = resume_time(event);
-    if !times_right(h, r, time_of_day(h), time_of_day(r)) {
+    if !times_right(h, r) {
         return false;
     }
-    if !code_fits(&code, h, r) {
+    if !code_fits(&code, round_times(h, r)) {
         return false;
     }
     tidy_event(&code, event)

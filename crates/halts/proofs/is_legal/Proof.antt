@@ -1,9 +1,11 @@
 -- `is_legal` meets its contract.
-use mathlib.Core.Path.{_≡_, sym, ap₂, _∙_}
+use mathlib.Core.Path.{_≡_, sym, ap, ap₂, _∙_}
+use mathlib.Core.Bool.{Bool, true, cond, _&&_}
 use native.Mathlib.Omega.{arith}
 use borrow.Author.Tests.{not-true, not-false}
 use lib.ListN.{length}
-use Rattle.halts.specs.Halts.{timesRight, codeFits, haltNumber, resumeNumberOf, ShapedHalt}
+use Rattle.frame.specs.Times.{every, codeRight}
+use Rattle.halts.specs.Halts.{timesRight, digitByte, codeFits, haltNumber, resumeNumberOf, ShapedHalt}
 use Rattle.halts.specs.declared.Halt.{Halt}
 use Rattle.halts.proofs.WriteLaws.{illegal-seq, illegal-times, illegal-code, legal-rest}
 use borrow.Author.Needs.{needs}
@@ -11,17 +13,20 @@ use Rattle.halts.proofs.is_legal.Statement.{statement}
 use Rattle.halts.proofs.is_legal.Tie as tie
 
 abbrev halt : tie.After-times-right → Halt
-halt k = k .before .before .before .before .before .before .before .before .args .m
+halt k = k .before .before .before .before .before .before .args .m
 
 shaped : (m : Halt) → length (m .code) ≡ 6 → ShapedHalt m
 shaped m l = record { code-long = l }
 
 times : (k : tie.After-times-right) → k .times-right .result ≡ timesRight (haltNumber (halt k .event)) (resumeNumberOf (halt k .event))
-times k = k .times-right .ensures ∙ ap₂ timesRight (k .before .before .before .before .halt-time .ensures) (k .before .before .before .resume-time .ensures)
+times k = k .times-right .ensures ∙ ap₂ timesRight (k .before .before .halt-time .ensures) (k .before .resume-time .ensures)
 
 code-told : (k : tie.After-code-fits) → k .code-fits .result
-    ≡ codeFits (halt (k .before .before .before) .code) (haltNumber (halt (k .before .before .before) .event)) (resumeNumberOf (halt (k .before .before .before) .event))
-code-told k = k .code-fits .ensures ∙ ap₂ (codeFits (halt (k .before .before .before) .code)) (k .before .before .before .before .before .before .before .halt-time .ensures) (k .before .before .before .before .before .before .resume-time .ensures)
+    ≡ codeFits (halt (k .before .before .before .before) .code) (haltNumber (halt (k .before .before .before .before) .event)) (resumeNumberOf (halt (k .before .before .before .before) .event))
+code-told k =
+    let code = halt (k .before .before .before .before) .code in
+    k .code-fits .ensures ∙ ap (λ (t : Bool). codeRight code && cond t (every digitByte code) true) (k .before .round-times .ensures)
+    ∙ ap₂ (codeFits code) (k .before .before .before .before .before .before .halt-time .ensures) (k .before .before .before .before .before .resume-time .ensures)
 
 returns : tie.Need-returns
 returns c =
@@ -35,12 +40,6 @@ halt-time-requires c κs = search needs
 resume-time-requires : tie.Need-resume-time-requires
 resume-time-requires c κs = search needs
 
-time-of-day-requires : tie.Need-time-of-day-requires
-time-of-day-requires c κs = search needs
-
-time-of-day-requires-2 : tie.Need-time-of-day-requires-2
-time-of-day-requires-2 c κs = search needs
-
 times-right-requires : tie.Need-times-right-requires
 times-right-requires c κs = search needs
 
@@ -53,14 +52,17 @@ returns-2 c =
 slice-aggregate-code-fits : tie.Need-slice-aggregate-code-fits
 slice-aggregate-code-fits c = search needs
 
+round-times-requires : tie.Need-round-times-requires
+round-times-requires c κs = search needs
+
 code-fits-requires : tie.Need-code-fits-requires
 code-fits-requires c κs = search needs
 
 returns-3 : tie.Need-returns-3
 returns-3 c =
-    let k = c .before .before .before .before in
+    let k = c .before .before .before .before .before in
     let l : length (halt k .code) ≡ 6 = search needs in
-    sym (illegal-code (halt k) (shaped (halt k) l) (omega (arith, c .before .before .before .before .before .before .before .before .before .if1 .left)) (sym (times k) ∙ not-false _ (c .before .before .before .if2 .left)) (sym (code-told (c .before)) ∙ not-true _ (c .if3 .taken)))
+    sym (illegal-code (halt k) (shaped (halt k) l) (omega (arith, c .before .before .before .before .before .before .before .before .if1 .left)) (sym (times k) ∙ not-false _ (c .before .before .before .before .if2 .left)) (sym (code-told (c .before)) ∙ not-true _ (c .if3 .taken)))
 
 slice-aggregate-tidy-event : tie.Need-slice-aggregate-tidy-event
 slice-aggregate-tidy-event c = search needs
@@ -70,10 +72,10 @@ tidy-event-requires c κs = search needs
 
 returns-4 : tie.Need-returns-4
 returns-4 c =
-    let k = c .before .before .before .before .before .before in
+    let k = c .before .before .before .before .before .before .before in
     let l : length (halt k .code) ≡ 6 = search needs in
     c .tidy-event .ensures
-    ∙ sym (legal-rest (halt k) (shaped (halt k) l) (omega (arith, c .before .before .before .before .before .before .before .before .before .before .before .if1 .left)) (sym (times k) ∙ not-false _ (c .before .before .before .before .before .if2 .left)) (sym (code-told (c .before .before .before)) ∙ not-false _ (c .before .before .if3 .left)))
+    ∙ sym (legal-rest (halt k) (shaped (halt k) l) (omega (arith, c .before .before .before .before .before .before .before .before .before .before .if1 .left)) (sym (times k) ∙ not-false _ (c .before .before .before .before .before .before .if2 .left)) (sym (code-told (c .before .before .before)) ∙ not-false _ (c .before .before .if3 .left)))
 
 pub is-legal-spec : {M : Type 1} → statement M
 is-legal-spec =
@@ -82,11 +84,10 @@ is-legal-spec =
     returns
     halt-time-requires
     resume-time-requires
-    time-of-day-requires
-    time-of-day-requires-2
     times-right-requires
     returns-2
     slice-aggregate-code-fits
+    round-times-requires
     code-fits-requires
     returns-3
     slice-aggregate-tidy-event

@@ -6,23 +6,37 @@ use borrow.Author.Needs.{needs}
 use Rattle.halts.proofs.times_right.Statement.{statement}
 use Rattle.halts.proofs.times_right.Tie as tie
 
+time-of-day-requires : tie.Need-time-of-day-requires
+time-of-day-requires c κs = search needs
+
 round-times-requires : tie.Need-round-times-requires
 round-times-requires c κs = search needs
 
 returns : tie.Need-returns
 returns c =
-    let b = c .before .before in
-    c .round-times .ensures ∙ sym (times-no-day (b .args .h) (b .args .r) (sym (b .pre .0) ∙ not-true _ (c .before .if1 .taken)))
+    let a = c .before .before .before .args in
+    c .round-times .ensures ∙ sym (times-no-day (a .h) (a .r) (sym (c .before .before .time-of-day .ensures) ∙ not-true _ (c .before .if1 .taken)))
 
 returns-2 : tie.Need-returns-2
 returns-2 c =
-    let b = c .before .before in
-    sym (times-open (b .args .h) (b .args .r) (sym (b .pre .0) ∙ not-false _ (c .before .if1 .left)) (c .if2 .taken))
+    let a = c .before .before .before .args in
+    sym (times-open (a .h) (a .r) (sym (c .before .before .time-of-day .ensures) ∙ not-false _ (c .before .if1 .left)) (c .if2 .taken))
+
+time-of-day-requires-2 : tie.Need-time-of-day-requires-2
+time-of-day-requires-2 c κs = search needs
 
 returns-3 : tie.Need-returns-3
 returns-3 c =
-    let b = c .before .before in
-    b .pre .1 ∙ sym (times-both (b .args .h) (b .args .r) (sym (b .pre .0) ∙ not-false _ (c .before .if1 .left)) (c .if2 .left))
+    let a = c .before .before .before .before .args in
+    c .time-of-day2 .ensures ∙ sym (times-both (a .h) (a .r) (sym (c .before .before .before .time-of-day .ensures) ∙ not-false _ (c .before .before .if1 .left)) (c .before .if2 .left))
 
 pub times-right-spec : {M : Type 1} → statement M
-times-right-spec = tie.close (tie.spec round-times-requires returns returns-2 returns-3)
+times-right-spec =
+    tie.close
+    (tie.spec
+    time-of-day-requires
+    round-times-requires
+    returns
+    returns-2
+    time-of-day-requires-2
+    returns-3)
