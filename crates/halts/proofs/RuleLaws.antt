@@ -5,6 +5,7 @@ use mathlib.Core.Bool.{Bool, true, false, cond, _&&_, not, and-false, or-true, o
 use mathlib.Core.List.{List}
 use borrow.Author.Tests.{eq-eqb, ne-eqb}
 use lib.Dec.{eqb}
+use Rattle.digits.proofs.Bools.{and-left}
 use Rattle.frame.specs.Times.{nines, timeOfDay, every, codeRight}
 use Rattle.halts.specs.Halts.{roundTimes, timesRight, digitByte, codeFits, asciiFrom, resumeOf, eventOf, sameResume, tidyEvent}
 use Rattle.halts.proofs.HaltLaws.{day-not-nines}
@@ -25,10 +26,15 @@ module _ (h r : ℕ) where
     pub times-both : (r ≡ nines 0 → ⊥) → timesRight h r ≡ timeOfDay 0 r
     times-both n = rw (d, ne-eqb r (nines 0) n, and-false (eqb h (nines 0)))
 
-  -- right times are a round's where the first is no time of day
-  pub round-told : (x : Bool) → x ≡ timeOfDay 0 h → timesRight h r ≡ true → not x ≡ roundTimes h r
-  round-told true d t = rw (day-not-nines h (sym d))
-  round-told false d t = sym (sym (times-no-day (sym d)) ∙ t)
+  -- right times are a round's where the first is all nines
+  pub round-told : timesRight h r ≡ true → eqb h (nines 0) ≡ roundTimes h r
+  round-told t = go (timeOfDay 0 h) refl
+    where
+      go : (x : Bool) → timeOfDay 0 h ≡ x → eqb h (nines 0) ≡ roundTimes h r
+      go true d = rw (day-not-nines h d)
+      go false d =
+          let e : roundTimes h r ≡ true = sym (times-no-day d) ∙ t in
+          and-left (eqb h (nines 0)) (eqb r (nines 0)) e ∙ sym e
 
 -- ---- an event that is tidy
 pub tidy-round : (code : List ℕ) (e : Event) (n : ℕ) → e ≡ RoundEnd n → tidyEvent code e ≡ eqb n (asciiFrom 0 code)

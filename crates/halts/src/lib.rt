@@ -98,12 +98,12 @@ fn day_at(s: &[u8], at: usize) -> bool
     s[at + 2] < 0x60
 }
 
-// The same of the times in a body, of which the first is known to be a time of day or not.
-fn body_times_right(body: &[u8], h: u32, r: u32, day: bool) -> bool
-    requires { ⌜ (12 ≤ length (now body)) × (good (take 3 (drop 9 (now body))) ≡ true) × (value (take 3 (drop 9 (now body))) ≡ r) × (day ≡ timeOfDay 0 h) ⌝ }
+// The same of the times in a body.
+fn body_times_right(body: &[u8], h: u32, r: u32) -> bool
+    requires { ⌜ (12 ≤ length (now body)) × (good (take 3 (drop 6 (now body))) ≡ true) × (value (take 3 (drop 6 (now body))) ≡ h) × (good (take 3 (drop 9 (now body))) ≡ true) × (value (take 3 (drop 9 (now body))) ≡ r) ⌝ }
     ensures { λ x. ⌜ x ≡ timesRight h r ⌝ }
 {
-    if !day {
+    if !day_at(body, 6) {
         return round_times(h, r);
     }
     if r == NINES {
@@ -242,11 +242,10 @@ pub fn read(body: &[u8], seq: u32) -> HaltReading
     }
     let h = times.first * 100 + times.last / 1000000;
     let r = times.last % 1000000;
-    let day = day_at(body, 6);
-    if !body_times_right(body, h, r, day) {
+    if !body_times_right(body, h, r) {
         return refused(12, 26);
     }
-    let round = !day;
+    let round = h == NINES;
     let code = code_at(body, 0);
     let s = body[12];
     if !code_fits(&code, round) {

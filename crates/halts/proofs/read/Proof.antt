@@ -1,14 +1,15 @@
 -- `read` meets its contract: a law for each answer.
 use Prim.Native.Nat.{ℕ, _+_, _*_, _/_, _%_, _≤_}
 use mathlib.Core.Path.{_≡_, refl, sym, ap, ap₂, _∙_}
-use mathlib.Core.Bool.{Bool, true, false, not, cond, _&&_}
+use mathlib.Core.Bool.{Bool, true, false, cond, _&&_}
 use mathlib.Core.List.{List}
 use native.Mathlib.Omega.{arith}
 use borrow.Author.Tests.{not-true, not-false}
 use lib.ListN.{length, getD, take}
+use lib.Dec.{eqb}
 use Rattle.digits.specs.Halves.{halvesAt}
 use Rattle.digits.specs.declared.halves.Halves.{Halves}
-use Rattle.frame.specs.Times.{timeOfDay, every, codeRight}
+use Rattle.frame.specs.Times.{nines, every, codeRight}
 use Rattle.halts.specs.Halts.{roundTimes, timesRight, digitByte, codeFits, stateRight, asciiFrom, resumeOf, eventOf}
 use Rattle.halts.specs.declared.Event.the-variants.{RoundEnd, Halted}
 use Rattle.halts.proofs.RuleLaws.{round-told}
@@ -48,20 +49,17 @@ times-good : (k : tie.Else2) → times k .good ≡ true
 times-good k = not-false _ (k .if2 .left)
 
 -- ---- where the times are right: the end of a round is told by its halt time
-times-right : (k : tie.Else3) → timesRight (halt-at (k .before .before .before .before .before .before)) (resume-at (k .before .before .before .before .before .before)) ≡ true
+times-right : (k : tie.Else3) → timesRight (halt-at (k .before .before .before .before .before)) (resume-at (k .before .before .before .before .before)) ≡ true
 times-right k = sym (k .before .body-times-right .ensures) ∙ not-false _ (k .if3 .left)
 
-day-told : (k : tie.After-day-at) → k .day-at .result ≡ timeOfDay 0 (halt-at (k .before .before .before .before))
-day-told k = k .day-at .ensures ∙ ap (timeOfDay 0) (first-time (bytes (k .before .before .before .before)) 6 (inside (k .before .before .before .before)) (times (k .before .before .before .before)) (times-read (k .before .before .before .before)) (times-good (k .before .before .before .before)))
-
-round : (k : tie.Else3) → not (k .before .before .day-at .result) ≡ roundTimes (halt-at (k .before .before .before .before .before .before)) (resume-at (k .before .before .before .before .before .before))
-round k = round-told (halt-at (k .before .before .before .before .before .before)) (resume-at (k .before .before .before .before .before .before)) _ (day-told (k .before .before)) (times-right k)
+round : (k : tie.Else3) → eqb (halt-at (k .before .before .before .before .before)) (nines 0) ≡ roundTimes (halt-at (k .before .before .before .before .before)) (resume-at (k .before .before .before .before .before))
+round k = round-told (halt-at (k .before .before .before .before .before)) (resume-at (k .before .before .before .before .before)) (times-right k)
 
 -- ---- the code
-code-read : (k : tie.After-code-at) → k .code-at .result ≡ take 6 (bytes (k .before .before .before .before .before .before .before))
-code-read k = k .code-at .ensures ∙ code-in (bytes (k .before .before .before .before .before .before .before)) 0 (omega (arith, long (k .before .before .before .before .before .before .before)))
+code-read : (k : tie.After-code-at) → k .code-at .result ≡ take 6 (bytes (k .before .before .before .before .before .before))
+code-read k = k .code-at .ensures ∙ code-in (bytes (k .before .before .before .before .before .before)) 0 (omega (arith, long (k .before .before .before .before .before .before)))
 
-code-told : (k : tie.After-code-fits) → k .code-fits .result ≡ codeFits (take 6 (bytes (k .before .before .before .before .before .before .before .before .before .before))) (halt-at (k .before .before .before .before .before .before .before .before .before .before)) (resume-at (k .before .before .before .before .before .before .before .before .before .before))
+code-told : (k : tie.After-code-fits) → k .code-fits .result ≡ codeFits (take 6 (bytes (k .before .before .before .before .before .before .before .before .before))) (halt-at (k .before .before .before .before .before .before .before .before .before)) (resume-at (k .before .before .before .before .before .before .before .before .before))
 code-told k =
     k .code-fits .ensures
     ∙ ap₂ (λ (x : List ℕ) (t : Bool). codeRight x && cond t (every digitByte x) true) (code-read (k .before .before .before)) (round (k .before .before .before .before))
@@ -100,18 +98,14 @@ add-h c =
     let k = c .before .before in
     omega (arith, first-small (bytes k) 6 (inside k) (times k) (times-read k) (times-good k), last-small (bytes k) 6 (inside k) (times k) (times-read k) (times-good k))
 
-day-at-requires : tie.Need-day-at-requires
-day-at-requires c κs =
-    let k = c .before .before .before in
-    (omega (arith, long k), first-good (bytes k) 6 (inside k) (times k) (times-read k) (times-good k))
-
 body-times-right-requires : tie.Need-body-times-right-requires
 body-times-right-requires c κs =
-    let k = c .before .before .before .before in (
+    let k = c .before .before .before in (
       inside k,
+      first-good (bytes k) 6 (inside k) (times k) (times-read k) (times-good k),
+      first-time (bytes k) 6 (inside k) (times k) (times-read k) (times-good k),
       second-good (bytes k) 6 (inside k) (times k) (times-read k) (times-good k),
       second-time (bytes k) 6 (inside k) (times k) (times-read k) (times-good k),
-      day-told c,
     )
 
 refused-requires-3 : tie.Need-refused-requires-3
@@ -119,7 +113,7 @@ refused-requires-3 c κs = search needs
 
 returns-3 : tie.Need-returns-3
 returns-3 c =
-    let k = c .before .before .before .before .before .before .before in
+    let k = c .before .before .before .before .before .before in
     let t : timesRight (halt-at k) (resume-at k) ≡ false = sym (c .before .before .body-times-right .ensures) ∙ not-true _ (c .before .if3 .taken) in
     refused-as (number k) (bytes k) 12 refl refl (wrong-times (bytes k) (long k) (times k) (times-read k) (times-good k) t) 26 (omega (arith, long k)) (c .refused3 .result) (c .refused3 .ensures)
 
@@ -140,7 +134,7 @@ refused-requires-4 c κs = search needs
 
 returns-4 : tie.Need-returns-4
 returns-4 c =
-    let k = c .before .before .before .before .before .before .before .before .before .before .before .before in
+    let k = c .before .before .before .before .before .before .before .before .before .before .before in
     let f : codeFits (take 6 (bytes k)) (halt-at k) (resume-at k) ≡ false = sym (code-told (c .before .before)) ∙ not-true _ (c .before .if4 .taken) in
     refused-as (number k) (bytes k) 13 refl refl (wrong-code (bytes k) (long k) (times k) (times-read k) (times-good k) (times-right (c .before .before .before .before .before .before)) f) 26 (omega (arith, long k)) (c .refused4 .result) (c .refused4 .ensures)
 
@@ -152,7 +146,7 @@ refused-requires-5 c κs = search needs
 
 returns-5 : tie.Need-returns-5
 returns-5 c =
-    let k = c .before .before .before .before .before .before .before .before .before .before .before .before .before .before in
+    let k = c .before .before .before .before .before .before .before .before .before .before .before .before .before in
     let q : stateRight (getD (bytes k) 12 0) ≡ false = sym (c .before .before .state-right .ensures) ∙ not-true _ (c .before .if5 .taken) in
     refused-as (number k) (bytes k) 13 refl refl (wrong-state (bytes k) (long k) (times k) (times-read k) (times-good k) (times-right (c .before .before .before .before .before .before .before .before)) q) 26 (omega (arith, long k)) (c .refused5 .result) (c .refused5 .ensures)
 
@@ -167,7 +161,7 @@ sending-of-requires c κs = search needs
 
 returns-6 : tie.Need-returns-6
 returns-6 c =
-    let k = c .before .before .before .before .before .before .before .before .before .before .before .before .before .before .before .before in
+    let k = c .before .before .before .before .before .before .before .before .before .before .before .before .before .before .before in
     let f : codeFits (take 6 (bytes k)) (halt-at k) (resume-at k) ≡ true = sym (code-told (c .before .before .before .before .before .before)) ∙ not-false _ (c .before .before .before .before .before .if4 .left) in
     let q : stateRight (getD (bytes k) 12 0) ≡ true = sym (c .before .before .before .before .state-right .ensures) ∙ not-false _ (c .before .before .before .if5 .left) in
     let code = c .before .before .before .before .before .before .before .before .before .code-at .result in
@@ -188,7 +182,6 @@ read-spec =
     returns-2
     mul-h
     add-h
-    day-at-requires
     body-times-right-requires
     refused-requires-3
     returns-3
