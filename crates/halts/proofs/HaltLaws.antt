@@ -82,7 +82,7 @@ state-again Instant = refl
 pub day-lt : (t : ℕ) → timeOfDay 0 t ≡ true → t < 240000
 day-lt t h = omega (arith, ltb-true (t / 10000) 24 (and-left _ _ h))
 
-pub day-not-nines : (t : ℕ) → timeOfDay 0 t ≡ true → eqb t (nines 0) ≡ false
+day-not-nines : (t : ℕ) → timeOfDay 0 t ≡ true → eqb t (nines 0) ≡ false
 day-not-nines t h = ne-eqb t (nines 0) (λ e. omega (arith, day-lt t h))
 
 tidy-back : (code : List ℕ) (h r : ℕ) → timesRight h r ≡ true → tidyEvent code (eventOf code h r) ≡ true

@@ -3,12 +3,10 @@ use Prim.Native.Nat.{ℕ}
 use mathlib.Core.Path.{_≡_, refl, sym, ap, _∙_}
 use mathlib.Core.Bool.{Bool, true, false, cond, _&&_, not, and-false, or-true, or-false}
 use mathlib.Core.List.{List}
-use borrow.Author.Tests.{eq-eqb, ne-eqb}
+use borrow.Author.Tests.{eqb-true, eq-eqb, ne-eqb}
 use lib.Dec.{eqb}
-use Rattle.digits.proofs.Bools.{and-left}
 use Rattle.frame.specs.Times.{nines, timeOfDay, every, codeRight}
 use Rattle.halts.specs.Halts.{roundTimes, timesRight, digitByte, codeFits, asciiFrom, resumeOf, eventOf, sameResume, tidyEvent}
-use Rattle.halts.proofs.HaltLaws.{day-not-nines}
 use Rattle.halts.specs.declared.Resume.{Resume}
 use Rattle.halts.specs.declared.Resume.the-variants.{At}
 use Rattle.halts.specs.declared.Event.{Event}
@@ -16,8 +14,11 @@ use Rattle.halts.specs.declared.Event.the-variants.{RoundEnd, Halted}
 
 module _ (h r : ℕ) where
   -- ---- both times
-  pub times-no-day : timeOfDay 0 h ≡ false → timesRight h r ≡ roundTimes h r
-  times-no-day d = rw d (or-false (roundTimes h r))
+  pub times-nines : h ≡ nines 0 → timesRight h r ≡ eqb r (nines 0)
+  times-nines n = rw n (or-false (eqb r (nines 0)))
+
+  pub times-no-day : (h ≡ nines 0 → ⊥) → timeOfDay 0 h ≡ false → timesRight h r ≡ false
+  times-no-day n d = rw (ne-eqb h (nines 0) n, d)
 
   module _ (d : timeOfDay 0 h ≡ true) where
     pub times-open : r ≡ nines 0 → timesRight h r ≡ true
@@ -28,13 +29,11 @@ module _ (h r : ℕ) where
 
   -- right times are a round's where the first is all nines
   pub round-told : timesRight h r ≡ true → eqb h (nines 0) ≡ roundTimes h r
-  round-told t = go (timeOfDay 0 h) refl
+  round-told t = go (eqb h (nines 0)) refl
     where
-      go : (x : Bool) → timeOfDay 0 h ≡ x → eqb h (nines 0) ≡ roundTimes h r
-      go true d = rw (day-not-nines h d)
-      go false d =
-          let e : roundTimes h r ≡ true = sym (times-no-day d) ∙ t in
-          and-left (eqb h (nines 0)) (eqb r (nines 0)) e ∙ sym e
+      go : (x : Bool) → eqb h (nines 0) ≡ x → x ≡ (x && eqb r (nines 0))
+      go true e = sym (sym (times-nines (eqb-true h (nines 0) e)) ∙ t)
+      go false e = refl
 
 -- ---- an event that is tidy
 pub tidy-round : (code : List ℕ) (e : Event) (n : ℕ) → e ≡ RoundEnd n → tidyEvent code e ≡ eqb n (asciiFrom 0 code)

@@ -10,7 +10,7 @@ ghost use Rattle.frame.specs.Writing.{writeAnswer, writtenOver};
 ghost use Rattle.frame.specs.Codec.{legal, frameOf};
 ghost use Rattle.frame.specs.Times.{every, timeOfDay, codeRight};
 ghost use Rattle.frame.specs.declared.answer.Answer.the-variants.{Refused};
-ghost use Rattle.halts.specs.Halts.{nineteenCells, haltReading, nineteenCodec, resumeNumber, haltNumber, resumeNumberOf, sendingByte, haltValues, sameResume, tidyEvent, roundTimes, timesRight, digitByte, stateRight, asciiFrom, resumeOf, sendingOf, noHalt};
+ghost use Rattle.halts.specs.Halts.{nineteenCells, haltReading, nineteenCodec, resumeNumber, haltNumber, resumeNumberOf, sendingByte, haltValues, sameResume, tidyEvent, timesRight, digitByte, stateRight, asciiFrom, resumeOf, sendingOf, noHalt};
 ghost use Rattle.halts.specs.declared.Event.the-variants.{RoundEnd, Halted};
 use digits::halves::six_at;
 use frame::answer::Answer;
@@ -61,22 +61,15 @@ pub struct HaltReading {
 // All nines in a time's place.
 const NINES: u32 = 999999;
 
-// Both times are all nines.
-fn round_times(h: u32, r: u32) -> bool
-    ensures { λ x. ⌜ x ≡ roundTimes h r ⌝ }
-{
-    if h != NINES {
-        return false;
-    }
-    r == NINES
-}
-
 // A round's end, or a time of day and a resume that is open or a time of day.
 fn times_right(h: u32, r: u32) -> bool
     ensures { λ x. ⌜ x ≡ timesRight h r ⌝ }
 {
+    if h == NINES {
+        return r == NINES;
+    }
     if !time_of_day(h) {
-        return round_times(h, r);
+        return false;
     }
     if r == NINES {
         return true;
@@ -103,8 +96,11 @@ fn body_times_right(body: &[u8], h: u32, r: u32) -> bool
     requires { ⌜ (12 ≤ length (now body)) × (good (take 3 (drop 6 (now body))) ≡ true) × (value (take 3 (drop 6 (now body))) ≡ h) × (good (take 3 (drop 9 (now body))) ≡ true) × (value (take 3 (drop 9 (now body))) ≡ r) ⌝ }
     ensures { λ x. ⌜ x ≡ timesRight h r ⌝ }
 {
+    if h == NINES {
+        return r == NINES;
+    }
     if !day_at(body, 6) {
-        return round_times(h, r);
+        return false;
     }
     if r == NINES {
         return true;
@@ -348,7 +344,7 @@ fn is_legal(m: Halt) -> bool
     if !times_right(h, r) {
         return false;
     }
-    if !code_fits(&code, round_times(h, r)) {
+    if !code_fits(&code, h == NINES) {
         return false;
     }
     tidy_event(&code, event)

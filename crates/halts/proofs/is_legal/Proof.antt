@@ -7,6 +7,7 @@ use lib.ListN.{length}
 use Rattle.frame.specs.Times.{every, codeRight}
 use Rattle.halts.specs.Halts.{timesRight, digitByte, codeFits, haltNumber, resumeNumberOf, ShapedHalt}
 use Rattle.halts.specs.declared.Halt.{Halt}
+use Rattle.halts.proofs.RuleLaws.{round-told}
 use Rattle.halts.proofs.WriteLaws.{illegal-seq, illegal-times, illegal-code, legal-rest}
 use borrow.Author.Needs.{needs}
 use Rattle.halts.proofs.is_legal.Statement.{statement}
@@ -22,11 +23,14 @@ times : (k : tie.After-times-right) → k .times-right .result ≡ timesRight (h
 times k = k .times-right .ensures ∙ ap₂ timesRight (k .before .before .halt-time .ensures) (k .before .resume-time .ensures)
 
 code-told : (k : tie.After-code-fits) → k .code-fits .result
-    ≡ codeFits (halt (k .before .before .before .before) .code) (haltNumber (halt (k .before .before .before .before) .event)) (resumeNumberOf (halt (k .before .before .before .before) .event))
+    ≡ codeFits (halt (k .before .before .before) .code) (haltNumber (halt (k .before .before .before) .event)) (resumeNumberOf (halt (k .before .before .before) .event))
 code-told k =
-    let code = halt (k .before .before .before .before) .code in
-    k .code-fits .ensures ∙ ap (λ (t : Bool). codeRight code && cond t (every digitByte code) true) (k .before .round-times .ensures)
-    ∙ ap₂ (codeFits code) (k .before .before .before .before .before .before .halt-time .ensures) (k .before .before .before .before .before .resume-time .ensures)
+    let code = halt (k .before .before .before) .code in
+    let h = k .before .before .before .before .before .halt-time in
+    let r = k .before .before .before .before .resume-time in
+    let t : timesRight (h .result) (r .result) ≡ true = sym (k .before .before .before .times-right .ensures) ∙ not-false _ (k .before .before .if2 .left) in
+    k .code-fits .ensures ∙ ap (λ (x : Bool). codeRight code && cond x (every digitByte code) true) (round-told (h .result) (r .result) t)
+    ∙ ap₂ (codeFits code) (h .ensures) (r .ensures)
 
 returns : tie.Need-returns
 returns c =
@@ -52,17 +56,14 @@ returns-2 c =
 slice-aggregate-code-fits : tie.Need-slice-aggregate-code-fits
 slice-aggregate-code-fits c = search needs
 
-round-times-requires : tie.Need-round-times-requires
-round-times-requires c κs = search needs
-
 code-fits-requires : tie.Need-code-fits-requires
 code-fits-requires c κs = search needs
 
 returns-3 : tie.Need-returns-3
 returns-3 c =
-    let k = c .before .before .before .before .before in
+    let k = c .before .before .before .before in
     let l : length (halt k .code) ≡ 6 = search needs in
-    sym (illegal-code (halt k) (shaped (halt k) l) (omega (arith, c .before .before .before .before .before .before .before .before .if1 .left)) (sym (times k) ∙ not-false _ (c .before .before .before .before .if2 .left)) (sym (code-told (c .before)) ∙ not-true _ (c .if3 .taken)))
+    sym (illegal-code (halt k) (shaped (halt k) l) (omega (arith, c .before .before .before .before .before .before .before .if1 .left)) (sym (times k) ∙ not-false _ (c .before .before .before .if2 .left)) (sym (code-told (c .before)) ∙ not-true _ (c .if3 .taken)))
 
 slice-aggregate-tidy-event : tie.Need-slice-aggregate-tidy-event
 slice-aggregate-tidy-event c = search needs
@@ -72,10 +73,10 @@ tidy-event-requires c κs = search needs
 
 returns-4 : tie.Need-returns-4
 returns-4 c =
-    let k = c .before .before .before .before .before .before .before in
+    let k = c .before .before .before .before .before .before in
     let l : length (halt k .code) ≡ 6 = search needs in
     c .tidy-event .ensures
-    ∙ sym (legal-rest (halt k) (shaped (halt k) l) (omega (arith, c .before .before .before .before .before .before .before .before .before .before .if1 .left)) (sym (times k) ∙ not-false _ (c .before .before .before .before .before .before .if2 .left)) (sym (code-told (c .before .before .before)) ∙ not-false _ (c .before .before .if3 .left)))
+    ∙ sym (legal-rest (halt k) (shaped (halt k) l) (omega (arith, c .before .before .before .before .before .before .before .before .before .if1 .left)) (sym (times k) ∙ not-false _ (c .before .before .before .before .before .if2 .left)) (sym (code-told (c .before .before .before)) ∙ not-false _ (c .before .before .if3 .left)))
 
 pub is-legal-spec : {M : Type 1} → statement M
 is-legal-spec =
@@ -87,7 +88,6 @@ is-legal-spec =
     times-right-requires
     returns-2
     slice-aggregate-code-fits
-    round-times-requires
     code-fits-requires
     returns-3
     slice-aggregate-tidy-event
