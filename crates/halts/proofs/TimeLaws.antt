@@ -5,8 +5,8 @@ use mathlib.Core.Bool.{Bool, true, false, _&&_}
 use mathlib.Core.List.{List, [], _∷_}
 use native.Mathlib.Omega.{arith}
 use lib.ListN.{length, getD, take, drop, length-drop}
-use lib.Dec.{ltb}
-use borrow.Author.Tests.{ltb-true, ltb-false, lt-ltb, le-ltb}
+use lib.Dec.{eqb, ltb}
+use borrow.Author.Tests.{eq-eqb, ne-eqb, ltb-true, ltb-false, lt-ltb, le-ltb}
 use lib.Seq.{take-all, take-add, take-take, drop-drop, length-take-le}
 use Rattle.digits.specs.Packed.{goodByte, good, two, value}
 use Rattle.digits.specs.Halves.{halvesAt, halvesOf, noHalves}
@@ -106,6 +106,10 @@ module _ (s : List ℕ) (at : ℕ) (h : at + 6 ≤ length s) (t : Halves) (e : t
     second-time = rw six-told (ap value (sym back) ∙ back-value six six-long six-good)
 
 -- ---- a time of day by its bytes
+-- a byte of good digits is at most that of 99
+byte-small : (b : ℕ) → goodByte b ≡ true → b ≤ 153
+byte-small b g = omega (arith, good-halves b g .0, good-halves b g .1)
+
 -- good digits are below two digits where their byte is below those as a byte
 byte-below : (b n m : ℕ) → goodByte b ≡ true → m ≤ 9 → ltb (two b) (n * 10 + m) ≡ ltb b (n * 16 + m)
 byte-below b n m g h = go (ltb b (n * 16 + m)) refl
@@ -140,6 +144,36 @@ module _ (s : List ℕ) (at : ℕ) (h : at + 3 ≤ length s) where
       ∙ ap (λ (k : List ℕ). getD s at 0 ∷ k) (take-first 1 (at + 1) s (omega arith))
       ∙ ap (λ (k : List ℕ). getD s at 0 ∷ getD s (at + 1) 0 ∷ k) (take-first 0 (at + 1 + 1) s (omega arith) ∙ ap (λ (i : ℕ). getD s i 0 ∷ []) e)
 
+  pub bytes-small : good (take 3 (drop at s)) ≡ true → (getD s at 0 ≤ 153) × (getD s (at + 1) 0 ≤ 153) × (getD s (at + 2) 0 ≤ 153)
+  bytes-small g =
+      let i = both-true (goodByte (getD s at 0)) _ (ap good (sym three) ∙ g) in
+      let j = both-true (goodByte (getD s (at + 1) 0)) _ (i .1) in
+      (byte-small (getD s at 0) (i .0), byte-small (getD s (at + 1) 0) (j .0), byte-small (getD s (at + 2) 0) (and-left (goodByte (getD s (at + 2) 0)) true (j .1)))
+
   pub day-bytes : good (take 3 (drop at s)) ≡ true
       → timeOfDay 0 (value (take 3 (drop at s))) ≡ (ltb (getD s at 0) 36 && (ltb (getD s (at + 1) 0) 96 && ltb (getD s (at + 2) 0) 96))
   day-bytes g = ap (λ (k : List ℕ). timeOfDay 0 (value k)) three ∙ three-below (getD s at 0) (getD s (at + 1) 0) (getD s (at + 2) 0) (ap good (sym three) ∙ g)
+
+-- ---- three bytes side by side, each with what makes 128 of the first that is too large
+module _ (a b c : ℕ) (ha : a ≤ 153) (hb : b ≤ 153) (hc : c ≤ 153) where
+  abbrev beside : ℕ
+  beside = a + b * 256 + c * 65536 + 2105436
+
+  pub hour-late : (beside / 128 % 2 ≡ 0 → ⊥) → 36 ≤ a
+  hour-late n = omega arith
+
+  pub hour-right : beside / 128 % 2 ≡ 0 → a < 36
+  hour-right e = omega arith
+
+  pub minute-late : (beside / 32768 % 2 ≡ 0 → ⊥) → 96 ≤ b
+  minute-late n = omega arith
+
+  pub minute-right : beside / 32768 % 2 ≡ 0 → b < 96
+  minute-right e = omega arith
+
+  pub second-told : eqb (beside / 8388608 % 2) 0 ≡ ltb c 96
+  second-told = go (ltb c 96) refl
+    where
+      go : (t : Bool) → ltb c 96 ≡ t → eqb (beside / 8388608 % 2) 0 ≡ t
+      go true e = eq-eqb (beside / 8388608 % 2) 0 (omega (arith, ltb-true c 96 e))
+      go false e = ne-eqb (beside / 8388608 % 2) 0 (λ z. omega (arith, ltb-false c 96 e))

@@ -77,18 +77,20 @@ fn times_right(h: u32, r: u32) -> bool
     time_of_day(r)
 }
 
-// Three bytes of good digits from a place on are a time of day.
+// Three bytes of good digits from a place on are a time of day. They stand side by side, each with what makes 0x80 of the
+// first that is too large, so that its upper bit tells.
 fn day_at(s: &[u8], at: usize) -> bool
     requires { ⌜ (at + 3 ≤ length (now s)) × (good (take 3 (drop at (now s))) ≡ true) ⌝ }
     ensures { λ r. ⌜ r ≡ timeOfDay 0 (value (take 3 (drop at (now (s .entry))))) ⌝ }
 {
-    if 0x24 <= s[at] {
+    let x = s[at] as u32 + s[at + 1] as u32 * 256 + s[at + 2] as u32 * 65536 + 0x20205c;
+    if x / 0x80 % 2 != 0 {
         return false;
     }
-    if 0x60 <= s[at + 1] {
+    if x / 0x8000 % 2 != 0 {
         return false;
     }
-    s[at + 2] < 0x60
+    x / 0x800000 % 2 == 0
 }
 
 // The same of the times in a body.
