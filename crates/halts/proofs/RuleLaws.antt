@@ -5,8 +5,8 @@ use mathlib.Core.Bool.{Bool, true, false, cond, _&&_, not, and-false, or-true, o
 use mathlib.Core.List.{List}
 use borrow.Author.Tests.{eqb-true, eq-eqb, ne-eqb}
 use lib.Dec.{eqb}
-use Rattle.frame.specs.Times.{nines, timeOfDay, every, codeRight}
-use Rattle.halts.specs.Halts.{roundTimes, timesRight, digitByte, codeFits, asciiFrom, resumeOf, eventOf, sameResume, tidyEvent}
+use Rattle.frame.specs.Times.{nines, timeOfDay}
+use Rattle.halts.specs.Halts.{roundTimes, timesRight, asciiFrom, sameResume, tidyEvent}
 use Rattle.halts.specs.declared.Resume.{Resume}
 use Rattle.halts.specs.declared.Resume.the-variants.{At}
 use Rattle.halts.specs.declared.Event.{Event}

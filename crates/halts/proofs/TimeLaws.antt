@@ -1,4 +1,4 @@
--- Two times of three bytes each, worked out as two bytes and four.
+-- Two times of three bytes each, worked out as two bytes and four; and a time of day by its bytes.
 use Prim.Native.Nat.{ℕ, _+_, _*_, _/_, _%_, _^_, _≤_, _<_}
 use mathlib.Core.Path.{_≡_, refl, sym, ap, ap₂, _∙_}
 use mathlib.Core.Bool.{Bool, true, false, _&&_}
@@ -154,7 +154,7 @@ module _ (s : List ℕ) (at : ℕ) (h : at + 3 ≤ length s) where
       → timeOfDay 0 (value (take 3 (drop at s))) ≡ (ltb (getD s at 0) 36 && (ltb (getD s (at + 1) 0) 96 && ltb (getD s (at + 2) 0) 96))
   day-bytes g = ap (λ (k : List ℕ). timeOfDay 0 (value k)) three ∙ three-below (getD s at 0) (getD s (at + 1) 0) (getD s (at + 2) 0) (ap good (sym three) ∙ g)
 
--- ---- three bytes side by side, each with what makes 128 of the first that is too large
+-- ---- three bytes side by side, with what is added to give one that is too large its upper bit
 module _ (a b c : ℕ) (ha : a ≤ 153) (hb : b ≤ 153) (hc : c ≤ 153) where
   abbrev beside : ℕ
   beside = a + b * 256 + c * 65536 + 2105436

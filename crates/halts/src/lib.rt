@@ -77,8 +77,7 @@ fn times_right(h: u32, r: u32) -> bool
     time_of_day(r)
 }
 
-// Three bytes of good digits from a place on are a time of day. They stand side by side, each with what makes 0x80 of the
-// first that is too large, so that its upper bit tells.
+// Three bytes of good digits from a place on are a time of day: what is added gives a byte that is too large its upper bit.
 fn day_at(s: &[u8], at: usize) -> bool
     requires { ⌜ (at + 3 ≤ length (now s)) × (good (take 3 (drop at (now s))) ≡ true) ⌝ }
     ensures { λ r. ⌜ r ≡ timeOfDay 0 (value (take 3 (drop at (now (s .entry))))) ⌝ }
@@ -93,7 +92,7 @@ fn day_at(s: &[u8], at: usize) -> bool
     x / 0x800000 % 2 == 0
 }
 
-// The same of the times in a body.
+// The times in a body are right.
 fn body_times_right(body: &[u8], h: u32, r: u32) -> bool
     requires { ⌜ (12 ≤ length (now body)) × (good (take 3 (drop 6 (now body))) ≡ true) × (value (take 3 (drop 6 (now body))) ≡ h) × (good (take 3 (drop 9 (now body))) ≡ true) × (value (take 3 (drop 9 (now body))) ≡ r) ⌝ }
     ensures { λ x. ⌜ x ≡ timesRight h r ⌝ }
