@@ -32,9 +32,11 @@ pub extern "C" fn trivsome_read_notice_numbers(
         return of_answer(answer);
     }
     let notice = r.notice;
-    let bytes = notice.text;
+    let length = notice.length;
+    let start = at + 11;
     *category = notice.category;
-    *text = bytes;
+    *text = [0; 60];
+    put_bytes(&line[start..start + length], text, 0);
     of_answer(answer)
 }
 

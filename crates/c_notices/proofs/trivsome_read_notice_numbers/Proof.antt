@@ -1,12 +1,14 @@
 -- `trivsome_read_notice_numbers` meets its contract: a refusal or another format leaves what was lent.
 use mathlib.Core.Path.{_≡_, sym, ap, _∙_}
 use borrow.Author.Tests.{not-true, not-false}
+use native.Mathlib.Omega.{arith}
 use lib.ListN.{drop}
 use Rattle.notices.specs.declared.NoticeReading.{NoticeReading}
 use Rattle.frames.specs.Reading.{noticeAt}
 use Rattle.outcomes.specs.Outcomes.{readOutcome}
 use Rattle.outcomes.specs.Lent.{isOf}
 use Rattle.outcomes.proofs.LentLaws.{lent-filled, lent-kept}
+use Rattle.c_notices.proofs.NoticeBytes.{text-within, text-bytes}
 use borrow.Author.Needs.{needs}
 use Rattle.c_notices.proofs.trivsome_read_notice_numbers.Statement.{statement}
 use Rattle.c_notices.proofs.trivsome_read_notice_numbers.Tie as tie
@@ -28,17 +30,53 @@ returns c =
     let other = sym (ap (isOf 5) a) ∙ sym (c .before .before .is-of .ensures) ∙ not-true _ (c .before .if1 .taken) in
     (c .of-answer .ensures ∙ ap readOutcome a, (lent-kept 5 (m .answer) (m .notice .category) (o .category .now) other, lent-kept 5 (m .answer) (m .notice .text) (o .text .now) other))
 
+add-start : tie.Need-add-start
+add-start c =
+    let o = c .before .before .before .before .before .args in
+    let e = c .before .before .before .read-notice .ensures in
+    let is = sym (c .before .before .is-of .ensures) ∙ not-false _ (c .before .if1 .left) in
+    omega (arith, text-within (o .line .now) (o .at) _ e is)
+
+add-put-bytes : tie.Need-add-put-bytes
+add-put-bytes c =
+    let o = c .before .before .before .before .before .before .args in
+    let e = c .before .before .before .before .read-notice .ensures in
+    let is = sym (c .before .before .before .is-of .ensures) ∙ not-false _ (c .before .before .if1 .left) in
+    omega (arith, text-within (o .line .now) (o .at) _ e is)
+
+sub-put-bytes : tie.Need-sub-put-bytes
+sub-put-bytes c = search needs
+
+part-put-bytes-start : tie.Need-part-put-bytes-start
+part-put-bytes-start c = search needs
+
+part-put-bytes-end : tie.Need-part-put-bytes-end
+part-put-bytes-end c =
+    let o = c .before .before .before .before .before .before .args in
+    let e = c .before .before .before .before .read-notice .ensures in
+    let is = sym (c .before .before .before .is-of .ensures) ∙ not-false _ (c .before .before .if1 .left) in
+    omega (arith, text-within (o .line .now) (o .at) _ e is)
+
+put-bytes-requires : tie.Need-put-bytes-requires
+put-bytes-requires c κs = search needs
+
 of-answer-requires-2 : tie.Need-of-answer-requires-2
 of-answer-requires-2 c κs = search needs
 
 returns-2 : tie.Need-returns-2
 returns-2 c =
-    let o = c .before .before .before .before .before .before .before .args in
+    let o = c .before .before .before .before .before .before .before .before .before .before .args in
+    let e = c .before .before .before .before .before .before .before .before .read-notice .ensures in
+    let is = sym (c .before .before .before .before .before .before .before .is-of .ensures) ∙ not-false _ (c .before .before .before .before .before .before .if1 .left) in
     let m = noticeAt (drop (o .at) (o .line .now)) in
-    let e = c .before .before .before .before .before .read-notice .ensures in
     let a = ap (λ (r : NoticeReading). r .answer) e in
-    let is = sym (ap (isOf 5) a) ∙ sym (c .before .before .before .before .is-of .ensures) ∙ not-false _ (c .before .before .before .if1 .left) in
-    (c .of-answer2 .ensures ∙ ap readOutcome a, (lent-filled 5 (m .answer) (m .notice .category) (o .category .now) _ is (ap (λ (r : NoticeReading). r .notice .category) e), lent-filled 5 (m .answer) (m .notice .text) (o .text .now) _ is (ap (λ (r : NoticeReading). r .notice .text) e)))
+    let five = sym (ap (isOf 5) a) ∙ is in (
+      c .of-answer2 .ensures ∙ ap readOutcome a,
+      (
+        lent-filled 5 (m .answer) (m .notice .category) (o .category .now) _ five (ap (λ (r : NoticeReading). r .notice .category) e),
+        lent-filled 5 (m .answer) (m .notice .text) (o .text .now) _ five (c .before .put-bytes .ensures ∙ text-bytes (o .line .now) (o .at) _ e is),
+      ),
+    )
 
 pub trivsome-read-notice-numbers-spec : {M : Type 1} → statement M
 trivsome-read-notice-numbers-spec =
@@ -48,5 +86,11 @@ trivsome-read-notice-numbers-spec =
     is-of-requires
     of-answer-requires
     returns
+    add-start
+    add-put-bytes
+    sub-put-bytes
+    part-put-bytes-start
+    part-put-bytes-end
+    put-bytes-requires
     of-answer-requires-2
     returns-2)
