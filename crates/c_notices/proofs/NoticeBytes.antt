@@ -5,7 +5,7 @@ use mathlib.Core.Bool.{true}
 use mathlib.Core.List.{List, [], _∷_, _++_}
 use native.Mathlib.Omega.{arith}
 use lib.ListN.{length, take, drop, replicate, length-drop}
-use lib.Seq.{drop-drop, take-all}
+use lib.Seq.{drop-drop}
 use borrow.Author.Tests.{eqb-true}
 use Rattle.digits.proofs.Bools.{no-false}
 use Rattle.frame.specs.Outline.{lengthOf, own, body}
@@ -19,8 +19,8 @@ use Rattle.frame.proofs.CodecLaws.{Reads}
 use Rattle.notices.specs.Notices.{five, fiveCodec, room}
 use Rattle.notices.specs.declared.Notice.{Notice}
 use Rattle.notices.specs.declared.NoticeReading.{NoticeReading}
-use Rattle.notices.proofs.NoticeLaws.{text-length, ranged-text}
-use Rattle.notices.proofs.ReadSteps.{values-five, text-put}
+use Rattle.notices.proofs.NoticeLaws.{text-length, ranged-text, text-put}
+use Rattle.notices.proofs.ReadSteps.{values-five}
 use Rattle.frames.specs.Reading.{answerOf, noticeAt}
 use Rattle.frames.proofs.Trips.{trips-five}
 use Rattle.outcomes.specs.Lent.{isOf}
@@ -87,7 +87,7 @@ module _ (line : List ℕ) (at : ℕ) (r : NoticeReading) (e : r ≡ noticeAt (d
   text-bytes =
       let values : drop 1 (valuesOf five b) ≡ drop 1 b = ap (drop 1) (values-five b (omega (arith, text-long .0))) in
       let long : length (drop 1 b) ≡ n = rw length-drop (omega (arith, text-long .0)) in
-      ap (λ (x : List ℕ). bytesOver x (replicate room 0) 0) (text-there ∙ sym (take-all n (drop 1 b) (omega arith)))
-      ∙ text-put (drop 1 b) room n long (text-long .1)
+      ap (λ (x : List ℕ). bytesOver x (replicate room 0) 0) text-there
+      ∙ text-put (drop 1 b) room (omega (arith, text-long .1))
       ∙ ap (λ (x : List ℕ). x ++ replicate (room - length x) 0) (sym values)
       ∙ sym (ap (λ (m : Notice). m .text) (reads .meant))

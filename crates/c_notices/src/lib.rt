@@ -9,7 +9,6 @@ ghost use Rattle.outcomes.specs.Written.{writtenOutcome, writtenBytes};
 ghost use Rattle.c_notices.specs.Notices.{noticeFrom};
 use frame::bytes::put_bytes;
 use frames::reading::read_notice;
-use notices::Notice;
 use outcomes::is_of;
 use outcomes::of_answer;
 use outcomes::of_written;
@@ -51,14 +50,5 @@ pub extern "C" fn trivsome_write_notice_numbers(
     ensures { λ r. ⌜ r ≡ writtenOutcome fiveCodec (noticeFrom seq category (now (text .entry))) (now (buf .entry)) ⌝ }
     ensures { λ _. ⌜ now (buf .exit) ≡ writtenBytes fiveCodec (noticeFrom seq category (now (text .entry))) (now (buf .entry)) ⌝ }
 {
-    let length = text.len();
-    let mut room = [0; 60];
-    put_bytes(text, &mut room, 0);
-    let notice = Notice {
-        seq,
-        category,
-        length,
-        text: room,
-    };
-    of_written(notices::write(notice, buf))
+    of_written(notices::write_text(seq, category, text, buf))
 }

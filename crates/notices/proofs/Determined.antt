@@ -11,6 +11,9 @@ use Rattle.notices.proofs.read.Reads as rreads
 use Rattle.notices.proofs.write
 use Rattle.notices.proofs.write.Kinds as wown
 use Rattle.notices.proofs.write.Reads as wreads
+use Rattle.notices.proofs.write_text as text
+use Rattle.notices.proofs.write_text.Kinds as town
+use Rattle.notices.proofs.write_text.Reads as treads
 use Rattle.notices.proofs.empty as none
 use Rattle.notices.proofs.empty.Kinds as nown
 use Rattle.notices.proofs.empty.Reads as nreads
@@ -26,6 +29,12 @@ pub determined-write : (κs : Lifetimes.Lfts 1) (a : World.ArgsD write.signature
     (s₁ s₂ : Clauses.AtExit (kinds.endedOf 1 wown.ps wown.r) κs) → wreads.Post κs a r₁ s₁ → wreads.Post κs a r₂ s₂
     → (r₁ ≡ r₂) × (now (s₁ .1 .0) ≡ now (s₂ .1 .0))
 determined-write κs a r₁ r₂ s₁ s₂ p q = (p .0 ∙ sym (q .0), p .1 ∙ sym (q .1))
+
+-- what `write_text` answers, and the bytes afterwards
+pub determined-write-text : (κs : Lifetimes.Lfts 2) (a : World.ArgsD text.signature κs) (r₁ r₂ : World.ResD text.signature κs)
+    (s₁ s₂ : Clauses.AtExit (kinds.endedOf 2 town.ps town.r) κs) → treads.Post κs a r₁ s₁ → treads.Post κs a r₂ s₂
+    → (r₁ ≡ r₂) × (now (s₁ .1 .1 .1 .0) ≡ now (s₂ .1 .1 .1 .0))
+determined-write-text κs a r₁ r₂ s₁ s₂ p q = (p .0 ∙ sym (q .0), p .1 ∙ sym (q .1))
 
 -- what `empty` gives
 pub determined-empty : (κs : Lifetimes.Lfts 0) (a : World.ArgsD none.signature κs) (r₁ r₂ : World.ResD none.signature κs)

@@ -5,7 +5,7 @@ use mathlib.Core.Bool.{true}
 use mathlib.Core.List.{List, [], _∷_, _++_}
 use native.Mathlib.Omega.{arith}
 use lib.ListN.{length, getD, take, drop, replicate, length-append, length-drop, length-replicate, take-append-drop}
-use lib.Seq.{take-at, drop-at, length-take-le}
+use lib.Seq.{take-at, drop-at, length-take-le, sets-eq}
 use lib.Dec.{eqb, leb, lit<, lit≤}
 use borrow.Author.Tests.{eqb-true, leb-true}
 use Rattle.digits.proofs.Bools.{and-left, and-right}
@@ -14,10 +14,12 @@ use Rattle.frame.specs.Outline.{own}
 use Rattle.frame.specs.Format.{valuesOf, ranged}
 use Rattle.frame.specs.Times.{every}
 use Rattle.frame.specs.Codec.{legal, frameOf}
+use Rattle.frame.specs.Writing.{bytesOver}
+use Rattle.frame.proofs.PutLaws.{bytes-in}
 use Rattle.frame.proofs.CellLaws.{length-encode, length-decode}
 use Rattle.frame.proofs.FormatLaws.{Bodied}
 use Rattle.frame.proofs.CodecLaws.{Reads, Lawful, legal-range, legal-tidy, read-written, written-read}
-use Rattle.notices.specs.Notices.{fiveCells, five, room, noticeOf, noticeValues, fiveCodec, ShapedNotice}
+use Rattle.notices.specs.Notices.{fiveCells, five, room, noticeOf, noticeFrom, noticeValues, tidyNotice, fiveCodec, ShapedNotice}
 use Rattle.notices.specs.declared.Notice.{Notice}
 use Rattle.notices.proofs.RawLaws.{size-raws}
 
@@ -53,6 +55,30 @@ text-back t r = take-at t (replicate (r - length t) 0) (length t) refl
 -- and zeros behind it
 pub rest-tidy : (t : List ℕ) (r : ℕ) → every (eqb 0) (drop (length t) (t ++ replicate (r - length t) 0)) ≡ true
 rest-tidy t r = ap (every (eqb 0)) (drop-at t (replicate (r - length t) 0) (length t) refl) ∙ zeros-every (r - length t)
+
+-- fewer zeros
+drop-zeros : (n r : ℕ) → drop {A = ℕ} n (replicate r 0) ≡ replicate (r - n) 0
+drop-zeros zero r = let e : r - 0 ≡ r = omega arith in rw e
+drop-zeros (suc n) zero = let e : 0 - suc n ≡ 0 = omega arith in rw e
+drop-zeros (suc n) (suc r) = let e : suc r - suc n ≡ r - n = omega arith in rw e (drop-zeros n r)
+
+-- a text put over zeros
+pub text-put : (t : List ℕ) (r : ℕ) → length t ≤ r → bytesOver t (replicate r 0) 0 ≡ t ++ replicate (r - length t) 0
+text-put t r h =
+    let room-for : 0 + length t ≤ length (replicate {A = ℕ} r 0) = rw length-replicate (omega arith) in
+    let k : r - (0 + length t) ≡ r - length t = omega arith in
+    sym (bytes-in t (replicate r 0) 0 room-for)
+    ∙ sets-eq t (replicate r 0) 0 room-for
+    ∙ ap (λ (x : List ℕ). t ++ x) (drop-zeros (0 + length t) r ∙ ap (λ (k : ℕ). replicate k 0) k)
+
+-- the notice of a tidy notice's parts
+pub from-parts : (m : Notice) → length (m .text) ≡ room → m .length ≤ room → tidyNotice m ≡ true
+    → noticeFrom (m .seq) (m .category) (take (m .length) (m .text)) ≡ m
+from-parts m s h z =
+    let t = take (m .length) (m .text) in
+    let n : length t ≡ m .length = length-take-le (m .length) (m .text) (omega arith) in
+    ap₂ (λ (k : ℕ) (x : List ℕ). record { seq = m .seq; category = m .category; length = k; text = x }) n
+    (text-put t room (omega arith) ∙ filled (m .length) room (m .text) s h z)
 
 -- ---- the layout
 -- a byte more than the text

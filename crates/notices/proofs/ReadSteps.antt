@@ -1,12 +1,12 @@
 -- Reading a body: what each test tells of the rows, and the answer at each return.
-use Prim.Native.Nat.{ℕ, zero, suc, _+_, _-_, _*_, _/_, _%_, _≤_, _<_}
+use Prim.Native.Nat.{ℕ, suc, _+_, _-_, _*_, _/_, _%_, _≤_, _<_}
 use mathlib.Core.Path.{_≡_, refl, sym, ap, ap₂, _∙_}
 use mathlib.Core.Bool.{Bool, true, false, cond, _&&_, and-true}
-use mathlib.Core.List.{List, [], _∷_, _++_}
+use mathlib.Core.List.{List, [], _∷_}
 use mathlib.Core.Logic.{_⊎_, inl, inr}
 use native.Mathlib.Omega.{arith}
-use lib.ListN.{length, getD, take, drop, replicate, length-drop, length-replicate}
-use lib.Seq.{take-all, take-length, sets-eq}
+use lib.ListN.{length, getD, take, drop, replicate, length-drop}
+use lib.Seq.{take-all, take-length}
 use lib.Dec.{ltb}
 use borrow.Author.Tests.{le-leb, lt-leb, ne-eqb, lt-ltb, eq-eqb}
 use Rattle.digits.specs.Packed.{two, goodByte, goodField}
@@ -17,13 +17,12 @@ use Rattle.frame.specs.Rows.{firstFail}
 use Rattle.frame.specs.Format.{valuesOf, bodyRows, bodyAnswer}
 use Rattle.frame.specs.Writing.{bytesOver}
 use Rattle.frame.proofs.RowLaws.{pass}
-use Rattle.frame.proofs.PutLaws.{bytes-in}
 use Rattle.frame.specs.declared.answer.Answer.{Answer}
 use Rattle.notices.specs.Notices.{five, fiveRuled, room, noticeOf, noNotice, noticeReading}
 use Rattle.notices.specs.declared.Notice.{Notice}
 use Rattle.notices.specs.declared.NoticeReading.{NoticeReading}
 use Rattle.notices.proofs.RawLaws.{good-raws, decode-raws}
-use Rattle.notices.proofs.NoticeLaws.{size-five}
+use Rattle.notices.proofs.NoticeLaws.{size-five, text-put}
 
 -- ---- the category
 -- one of the four
@@ -127,22 +126,6 @@ module _ (b : List ℕ) (l : 1 ≤ length b) (h : length b ≤ 61) where
     row-none u = rows-five b l h ∙ rw (good-first, u)
 
 -- ---- acceptance: the notice of the first byte's number and of the bytes that follow it
--- fewer zeros
-pub drop-zeros : (n r : ℕ) → drop {A = ℕ} n (replicate r 0) ≡ replicate (r - n) 0
-drop-zeros zero r = let e : r - 0 ≡ r = omega arith in rw e
-drop-zeros (suc n) zero = let e : 0 - suc n ≡ 0 = omega arith in rw e
-drop-zeros (suc n) (suc r) = let e : suc r - suc n ≡ r - n = omega arith in rw e (drop-zeros n r)
-
--- a text put over zeros
-pub text-put : (t : List ℕ) (r n : ℕ) → length t ≡ n → n ≤ r → bytesOver (take n t) (replicate r 0) 0 ≡ t ++ replicate (r - length t) 0
-text-put t r n e h =
-    let room-for : 0 + length t ≤ length (replicate {A = ℕ} r 0) = rw length-replicate (omega arith) in
-    let k : r - (0 + length t) ≡ r - length t = omega arith in
-    ap (λ (x : List ℕ). bytesOver x (replicate r 0) 0) (take-all n t (omega arith))
-    ∙ sym (bytes-in t (replicate r 0) 0 room-for)
-    ∙ sets-eq t (replicate r 0) 0 room-for
-    ∙ ap (λ (x : List ℕ). t ++ x) (drop-zeros (0 + length t) r ∙ ap (λ (k : ℕ). replicate k 0) k)
-
 -- the reading where no row fails
 pub read-accepted : (seq : ℕ) (b z t : List ℕ) → 1 ≤ length b → length b ≤ 61 → firstFail (bodyRows five b) ≡ 0
     → z ≡ replicate room 0 → t ≡ bytesOver (take (length b - 1) (drop 1 b)) z 0
@@ -153,8 +136,9 @@ pub read-accepted : (seq : ℕ) (b z t : List ℕ) → 1 ≤ length b → length
     ≡ noticeReading seq b
 unfolding noticeReading bodyAnswer
 read-accepted seq b z t l h e q p =
+    let n : length (drop 1 b) ≡ length b - 1 = length-drop 1 b in
     let notice : record { seq = seq; category = two (getD b 0 0); length = length b - 1; text = t } ≡ noticeOf seq (valuesOf five b) =
     ap₂ (λ (k : ℕ) (x : List ℕ). record { seq = seq; category = two (getD b 0 0); length = k; text = x })
-    (sym (length-drop 1 b)) (p ∙ ap (λ (y : List ℕ). bytesOver (take (length b - 1) (drop 1 b)) y 0) q ∙ text-put (drop 1 b) room (length b - 1) (length-drop 1 b) (omega arith))
+    (sym n) (p ∙ ap₂ (λ (x y : List ℕ). bytesOver x y 0) (take-all (length b - 1) (drop 1 b) (omega arith)) q ∙ text-put (drop 1 b) room (omega arith))
     ∙ sym (ap (noticeOf seq) (values-five b l)) in
     rw e (ap (λ (m : Notice). record { answer = Answer.Accepted (record { format = 5; seq = seq; length = 13 + length b }); notice = m }) notice)

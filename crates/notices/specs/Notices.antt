@@ -10,6 +10,7 @@ use Rattle.frame.specs.Rows.{firstFail}
 use Rattle.frame.specs.Format.{Format, valuesOf, bodyRows, bodyAnswer}
 use Rattle.frame.specs.Times.{every}
 use Rattle.frame.specs.Codec.{Codec}
+use Rattle.frame.specs.Writing.{bytesOver}
 use Rattle.notices.specs.declared.Notice.{Notice}
 use Rattle.notices.specs.declared.NoticeReading.{NoticeReading}
 
@@ -61,6 +62,15 @@ fiveCodec = record {
   values = noticeValues;
   tidy = tidyNotice;
   message = noticeOf;
+}
+
+-- the notice of a number, a category and a text: zeros up to its room behind the text; a text beyond the room makes no legal notice
+abbrev pub noticeFrom : ℕ → ℕ → List ℕ → Notice
+noticeFrom seq category text = record {
+  seq = seq;
+  category = category;
+  length = length text;
+  text = bytesOver text (replicate room 0) 0;
 }
 
 -- a message's arrays have their lengths

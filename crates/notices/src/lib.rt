@@ -7,7 +7,7 @@ ghost use lib.Dec.{eqb};
 ghost use Rattle.frame.specs.Times.{every};
 ghost use Rattle.frame.specs.Codec.{legal, frameOf};
 ghost use Rattle.frame.specs.Writing.{writeAnswer, writtenOver};
-ghost use Rattle.notices.specs.Notices.{noticeReading, noNotice, room, fiveRuled, fiveCodec};
+ghost use Rattle.notices.specs.Notices.{noticeReading, noNotice, noticeFrom, room, fiveRuled, fiveCodec};
 use frame::answer::Answer;
 use frame::answer::Frame;
 use frame::answer::Written;
@@ -127,38 +127,39 @@ fn clear(text: &[u8], from: usize) -> bool
     true
 }
 
-// Whether a notice breaks no rule.
-fn lawful(m: Notice) -> bool
-    ensures { λ r. ⌜ r ≡ legal fiveCodec m ⌝ }
+// Writes the notice of a number, a category and a text as a frame at the start of the buffer.
+pub fn write_text(seq: u32, category: u8, text: &[u8], buf: &mut [u8]) -> Written
+    ensures { λ r. ⌜ (r ≡ writeAnswer (legal fiveCodec (noticeFrom seq category (now (text .entry)))) (frameOf fiveCodec (noticeFrom seq category (now (text .entry)))) (now (buf .entry))) × (now (buf .exit) ≡ writtenOver (legal fiveCodec (noticeFrom seq category (now (text .entry)))) (frameOf fiveCodec (noticeFrom seq category (now (text .entry)))) (now (buf .entry))) ⌝ }
 {
-    let n = m.length;
-    if 99_999_999 < m.seq {
-        return false;
+    let length = text.len();
+    if 99_999_999 < seq {
+        return Written::Illegal;
     }
-    if 60 < n {
-        return false;
+    if 60 < length {
+        return Written::Illegal;
     }
-    if !known(m.category) {
-        return false;
+    if !known(category) {
+        return Written::Illegal;
     }
-    let text = m.text;
-    clear(&text, n)
+    if buf.len() < 14 + length {
+        return Written::NoRoom;
+    }
+    buf[10] = category / 10 * 16 + category % 10;
+    put_bytes(text, buf, 11);
+    close(buf, 5, 1, seq, 14 + length)
 }
 
 // Writes a notice as a frame at the start of the buffer.
 pub fn write(m: Notice, buf: &mut [u8]) -> Written
     ensures { λ r. ⌜ (r ≡ writeAnswer (legal fiveCodec m) (frameOf fiveCodec m) (now (buf .entry))) × (now (buf .exit) ≡ writtenOver (legal fiveCodec m) (frameOf fiveCodec m) (now (buf .entry))) ⌝ }
 {
-    if !lawful(m) {
+    let n = m.length;
+    let text = m.text;
+    if 60 < n {
         return Written::Illegal;
     }
-    let n = m.length;
-    if buf.len() < 14 + n {
-        return Written::NoRoom;
+    if !clear(&text, n) {
+        return Written::Illegal;
     }
-    let category = m.category;
-    buf[10] = category / 10 * 16 + category % 10;
-    let text = m.text;
-    put_bytes(&text[..n], buf, 11);
-    close(buf, 5, 1, m.seq, 14 + n)
+    write_text(m.seq, m.category, &text[..n], buf)
 }

@@ -1,115 +1,76 @@
--- `write` meets its contract: a refusal leaves the buffer; else the body is placed and the frame closed around it.
-use mathlib.Core.Path.{_≡_, sym, _∙_}
+-- `write` meets its contract: a notice with room and zeros behind its text is that of its parts.
+use mathlib.Core.Path.{_≡_, sym, ap, _∙_}
 use mathlib.Core.Bool.{true}
 use native.Mathlib.Omega.{arith}
 use borrow.Author.Tests.{not-true, not-false}
-use lib.ListN.{length, length-set}
+use lib.ListN.{length}
 use lib.Seq.{length-take-le}
 use Rattle.frame.specs.Codec.{legal, frameOf}
-use Rattle.notices.specs.Notices.{fiveCodec, room}
+use Rattle.frame.specs.Writing.{writeAnswer, writtenOver}
 use Rattle.frame.proofs.PutLaws.{write-illegal}
-use Rattle.notices.proofs.NoticeLaws.{legal-text}
-use Rattle.notices.proofs.WriteSteps.{legal-category, notice-written, notice-room}
+use Rattle.notices.specs.Notices.{fiveCodec, room, tidyNotice}
+use Rattle.notices.specs.declared.Notice.{Notice}
+use Rattle.notices.proofs.NoticeLaws.{from-parts}
+use Rattle.notices.proofs.WriteSteps.{illegal-long, illegal-places}
 use borrow.Author.Needs.{needs}
 use Rattle.notices.proofs.write.Statement.{statement}
 use Rattle.notices.proofs.write.Tie as tie
 
-lawful-requires : tie.Need-lawful-requires
-lawful-requires c κs = search needs
-
 returns : tie.Need-returns
 returns c =
-    let w = c .before in
-    let a = w .before .before .args in
-    write-illegal (legal fiveCodec (a .m)) (frameOf fiveCodec (a .m)) (a .buf .now) (sym (w .lawful .ensures) ∙ not-true (w .lawful .result) (c .if1 .taken))
+    let a = c .before .before .before .args in
+    write-illegal (legal fiveCodec (a .m)) (frameOf fiveCodec (a .m)) (a .buf .now) (illegal-long (a .m) (omega arith))
 
-add-if2 : tie.Need-add-if2
-add-if2 c =
-    let w = c .before in
-    let a = w .before .before .args in
-    let l : legal fiveCodec (a .m) ≡ true = sym (w .lawful .ensures) ∙ not-false (w .lawful .result) (c .if1 .left) in
-    omega (arith, legal-text (a .m) l)
+slice-aggregate-clear : tie.Need-slice-aggregate-clear
+slice-aggregate-clear c = search needs
+
+clear-requires : tie.Need-clear-requires
+clear-requires c κs = search needs
 
 returns-2 : tie.Need-returns-2
 returns-2 c =
-    let w = c .before .before in
-    let a = w .before .before .args in
-    let l : legal fiveCodec (a .m) ≡ true = sym (w .lawful .ensures) ∙ not-false (w .lawful .result) (c .before .if1 .left) in
-    let s : length (a .m .text) ≡ room = search needs in
-    notice-room (a .m) s l (a .buf .now) (omega arith)
-
-mul-buf : tie.Need-mul-buf
-mul-buf c =
-    let w = c .before .before in
-    let a = w .before .before .args in
-    let l : legal fiveCodec (a .m) ≡ true = sym (w .lawful .ensures) ∙ not-false (w .lawful .result) (c .before .if1 .left) in
-    let s : length (a .m .text) ≡ room = search needs in
-    omega (arith, legal-category (a .m) s l)
-
-add-buf : tie.Need-add-buf
-add-buf c =
-    let w = c .before .before in
-    let a = w .before .before .args in
-    let l : legal fiveCodec (a .m) ≡ true = sym (w .lawful .ensures) ∙ not-false (w .lawful .result) (c .before .if1 .left) in
-    let s : length (a .m .text) ≡ room = search needs in
-    omega (arith, legal-category (a .m) s l)
-
-slice-write-buf : tie.Need-slice-write-buf
-slice-write-buf c = search needs
+    let a = c .before .before .before .before .before .before .args in
+    write-illegal (legal fiveCodec (a .m)) (frameOf fiveCodec (a .m)) (a .buf .now) (illegal-places (a .m) (sym (c .before .clear .ensures) ∙ not-true (c .before .clear .result) (c .if2 .taken)))
 
 array-share-prefix-text : tie.Need-array-share-prefix-text
 array-share-prefix-text c =
-    let w = c .before .before .before in
-    let a = w .before .before .args in
-    let l : legal fiveCodec (a .m) ≡ true = sym (w .lawful .ensures) ∙ not-false (w .lawful .result) (c .before .before .if1 .left) in
+    let a = c .before .before .before .before .before .before .args in
     let s : length (a .m .text) ≡ room = search needs in
-    omega (arith, legal-text (a .m) l)
+    omega arith
 
-slice-aggregate-put-bytes : tie.Need-slice-aggregate-put-bytes
-slice-aggregate-put-bytes c =
-    let w = c .before .before .before .before in
-    let a = w .before .before .args in
-    let l : legal fiveCodec (a .m) ≡ true = sym (w .lawful .ensures) ∙ not-false (w .lawful .result) (c .before .before .before .if1 .left) in
+slice-aggregate-write-text : tie.Need-slice-aggregate-write-text
+slice-aggregate-write-text c =
+    let a = c .before .before .before .before .before .before .before .args in
     let s : length (a .m .text) ≡ room = search needs in
-    sym (length-take-le (a .m .length) (a .m .text) (omega (arith, legal-text (a .m) l)))
+    sym (length-take-le (a .m .length) (a .m .text) (omega arith))
 
-put-bytes-requires : tie.Need-put-bytes-requires
-put-bytes-requires c κs = search needs
-
-add-close : tie.Need-add-close
-add-close c = search needs
-
-close-requires : tie.Need-close-requires
-close-requires c κs = search needs
+write-text-requires : tie.Need-write-text-requires
+write-text-requires c κs = search needs
 
 same-length : tie.Need-same-length
-same-length c = c .before .buf2 .given ∙ c .before .before .before .before .before .buf .given ∙ simp length-set
+same-length c = search needs
 
 returns-3 : tie.Need-returns-3
 returns-3 c =
-    let w = c .before .before .before .before .before .before .before .before .before .before .before .before in
-    let a = w .before .before .args in
-    let l : legal fiveCodec (a .m) ≡ true = sym (w .lawful .ensures) ∙ not-false (w .lawful .result) (c .before .before .before .before .before .before .before .before .before .before .before .if1 .left) in
+    let a = c .before .before .before .before .before .before .before .before .before .before .before .args in
     let s : length (a .m .text) ≡ room = search needs in
-    notice-written (a .m) s l (a .buf .now) (c .before .before .before .before .before .before .put-bytes .last .1 .0)
-    (c .before .before .close .last .0) (c .before .before .close .result) (omega arith)
-    (c .before .before .before .before .before .before .put-bytes .ensures) (c .before .before .close .ensures)
+    let z : tidyNotice (a .m) ≡ true = sym (c .before .before .before .before .before .before .clear .ensures) ∙ not-false (c .before .before .before .before .before .before .clear .result) (c .before .before .before .before .before .if2 .left) in
+    let same = from-parts (a .m) s (omega arith) z in
+    let w = c .before .before .write-text .ensures in (
+      w .0 ∙ ap (λ (x : Notice). writeAnswer (legal fiveCodec x) (frameOf fiveCodec x) (a .buf .now)) same,
+      w .1 ∙ ap (λ (x : Notice). writtenOver (legal fiveCodec x) (frameOf fiveCodec x) (a .buf .now)) same,
+    )
 
 pub write-spec : {M : Type 1} → statement M
 write-spec =
     tie.close
     (tie.spec
-    lawful-requires
     returns
-    add-if2
+    slice-aggregate-clear
+    clear-requires
     returns-2
-    mul-buf
-    add-buf
-    slice-write-buf
     array-share-prefix-text
-    slice-aggregate-put-bytes
-    put-bytes-requires
-    add-close
-    close-requires
+    slice-aggregate-write-text
+    write-text-requires
     same-length
     returns-3)
