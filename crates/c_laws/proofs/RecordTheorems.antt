@@ -15,7 +15,7 @@ use Rattle.frame.specs.Times.{nines, codeAt}
 use Rattle.frame.specs.Writing.{bytesOver}
 use Rattle.notices.specs.Notices.{room, tidyNotice, ShapedNotice}
 use Rattle.notices.specs.declared.Notice.{Notice}
-use Rattle.notices.proofs.NoticeLaws.{filled}
+use Rattle.notices.proofs.NoticeLaws.{from-parts}
 use Rattle.quotes.specs.Quotes.{ShapedQuote}
 use Rattle.quotes.specs.declared.quote.Quote.{Quote}
 use Rattle.quotes.proofs.QuoteLaws.{of-six}
@@ -120,21 +120,7 @@ tidy-resume code (Halted t r) h = and-right (cond (eqb t (nines 0)) false true) 
 -- ---- notices
 -- a tidy notice's text and figures are those of the notice alone
 pub notice-back : (m : Notice) → ShapedNotice m → m .length ≤ room → tidyNotice m ≡ true → noticeFrom (m .seq) (m .category) (take (m .length) (m .text)) ≡ m
-notice-back m s h tidy =
-    let t = take (m .length) (m .text) in
-    let z : List ℕ = replicate room 0 in
-    let n : length t ≡ m .length = length-take-le (m .length) (m .text) (omega (arith, s .text-long)) in
-    let long : length z ≡ room = length-replicate {A = ℕ} room 0 in
-    let put : bytesOver t z 0 ≡ t ++ drop (0 + length t) z =
-    bytes-in z t 0 (omega (arith, long, n)) ∙ sets-eq t z 0 (omega (arith, long, n)) in
-    let rest : drop (0 + length t) z ≡ replicate (room - length t) 0 = zeros-left room (0 + length t) (room - length t) (omega arith) in
-    ap₂ (λ (k : ℕ) (x : List ℕ). record { seq = m .seq; category = m .category; length = k; text = x }) n
-    (put ∙ ap (λ (x : List ℕ). t ++ x) rest ∙ filled (m .length) room (m .text) (s .text-long) h tidy)
-  where
-    zeros-left : (n k r : ℕ) → n - k ≡ r → drop {A = ℕ} k (replicate n 0) ≡ replicate r 0
-    zeros-left n zero r e = let f : n ≡ r = omega arith in ap (λ (x : ℕ). replicate {A = ℕ} x 0) f
-    zeros-left zero (suc k) r e = let f : 0 ≡ r = omega arith in ap (λ (x : ℕ). replicate {A = ℕ} x 0) f
-    zeros-left (suc n) (suc k) r e = zeros-left n k r (omega arith)
+notice-back m s h tidy = from-parts m (s .text-long) h tidy
 
 -- ---- prices
 -- the slots that lists tell from a place on are those whose codes, amounts and times stand there
