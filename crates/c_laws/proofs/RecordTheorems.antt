@@ -4,15 +4,14 @@ use mathlib.Core.Path.{_≡_, refl, sym, ap, ap₂, _∙_}
 use mathlib.Core.Bool.{Bool, true, false, cond}
 use mathlib.Core.List.{List, [], _∷_, _++_}
 use native.Mathlib.Omega.{arith}
-use lib.ListN.{length, getD, take, drop, replicate, length-append, length-drop, length-replicate}
-use lib.Seq.{sets-eq, take-at, drop-at, length-take-le, getD-drop, drop-drop}
+use lib.ListN.{length, getD, take, drop, replicate, length-append, length-drop}
+use lib.Seq.{take-at, drop-at, getD-drop, drop-drop}
 use lib.Dec.{eqb}
 use borrow.Author.Tests.{le-leb}
 use Rattle.digits.specs.Amounts.{asPrice, asQuantity}
 use Rattle.digits.specs.declared.amounts.Pair.{Pair}
 use Rattle.digits.proofs.Bools.{and-right, no-false}
 use Rattle.frame.specs.Times.{nines, codeAt}
-use Rattle.frame.specs.Writing.{bytesOver}
 use Rattle.notices.specs.Notices.{room, tidyNotice, ShapedNotice}
 use Rattle.notices.specs.declared.Notice.{Notice}
 use Rattle.notices.proofs.NoticeLaws.{from-parts}
@@ -30,7 +29,6 @@ use Rattle.halts.specs.declared.Halt.{Halt}
 use Rattle.prices.specs.Prices.{slotCount, codesLong, ShapedPrices}
 use Rattle.prices.specs.declared.Slot.{Slot}
 use Rattle.prices.specs.declared.Prices.{Prices}
-use Rattle.outcomes.proofs.ListLaws.{bytes-in}
 use Rattle.c_notices.specs.Notices.{noticeFrom}
 use Rattle.c_quotes.specs.Quotes.{quoteBytes, quoteAmounts, quoteFrom}
 use Rattle.c_prices.specs.Slots.{slotCodes, slotAmounts, slotTimes, slotIn, slotsIn, pricesFrom}

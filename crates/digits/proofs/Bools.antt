@@ -1,6 +1,6 @@
 -- Tests joined by `&&`: what holds of the whole holds of each part, and back.
-use mathlib.Core.Path.{_≡_, refl, sym, subst, _∙_}
-use mathlib.Core.Bool.{Bool, true, false, not, _&&_, cond}
+use mathlib.Core.Path.{_≡_, refl, sym, subst}
+use mathlib.Core.Bool.{Bool, true, false, _&&_}
 use lib.Dec.{T}
 
 pub no-false : false ≡ true → ⊥

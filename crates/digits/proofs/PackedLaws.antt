@@ -1,15 +1,14 @@
 -- Laws of packed digits, over any width: reading what was packed gives the number, packing what was read gives the bytes.
 use Prim.Native.Nat.{ℕ, zero, suc, _+_, _*_, _/_, _%_, _^_, _≤_, _<_}
 use mathlib.Core.Path.{_≡_, refl, sym, ap, ap₂, _∙_, subst}
-use mathlib.Core.Bool.{Bool, true, false, _&&_}
+use mathlib.Core.Bool.{true}
 use mathlib.Core.List.{List, [], _∷_, _++_}
 use native.Mathlib.Nat.{pow-suc, pow-le-pow-right, mul-comm, mul-assoc, add-mul, mul-le-mul-right, lt-of-lt-of-le, mod-eq-of-lt}
-use native.Mathlib.Numerals.{add-one}
 use native.Mathlib.Omega.{arith}
 use lib.Arith.{mod-mul, digits-div}
 use lib.Pow.{pow-add}
 use lib.ListN.{length, take, drop, take-append-drop}
-use lib.Dec.{leb, ltb, lit<}
+use lib.Dec.{leb, lit<}
 use borrow.Author.Tests.{leb-true, le-leb, lt-ltb, ltb-true}
 use Rattle.digits.specs.Packed.{width, goodByte, good, two, valueFrom, value, goodField, byteOf, packed}
 use Rattle.digits.proofs.Powers.{pow-some}

@@ -1,17 +1,17 @@
 -- What good digits are worth: bounds, fields of an even and of an odd number of digits.
 use Prim.Native.Nat.{ℕ, zero, suc, _+_, _*_, _/_, _%_, _^_, _≤_, _<_}
-use mathlib.Core.Path.{_≡_, refl, sym, ap, ap₂, _∙_}
+use mathlib.Core.Path.{_≡_, refl, ap, ap₂, _∙_}
 use mathlib.Core.Bool.{Bool, true, false, _&&_, and-assoc, and-false}
 use mathlib.Core.List.{List, [], _∷_}
 use native.Mathlib.Omega.{arith}
-use native.Mathlib.Nat.{add-mul, mul-assoc, mul-comm, zero-add, pow-suc, le-trans, le-add-right, mul-le-mul-right}
+use native.Mathlib.Nat.{zero-add, le-trans, le-add-right, mul-le-mul-right}
 use lib.Arith.{digits-lt}
 use lib.Dec.{leb, ltb}
 use lib.ListN.{length, take, drop}
 use borrow.Author.Tests.{leb-true, leb-false, le-leb, lt-ltb, le-ltb}
 use Rattle.digits.proofs.Bools.{and-right}
 use Rattle.digits.proofs.PackedLaws.{valueFrom-shift, value-lt}
-use Rattle.digits.specs.Packed.{goodByte, good, two, valueFrom, value, goodField}
+use Rattle.digits.specs.Packed.{goodByte, good, two, value, goodField}
 
 -- the first byte counts by how many follow it
 pub value-cons : (b : ℕ) (bs : List ℕ) → value (b ∷ bs) ≡ two b * 100 ^ length bs + value bs

@@ -1,13 +1,12 @@
 -- Prices in ten-thousandths, 9(5)V9(4), and quantities in trading units, 9(8), at a place in some bytes.
 use Prim.Native.Nat.{ℕ, _+_}
-use mathlib.Core.Bool.{Bool, true, false, cond, _&&_}
+use mathlib.Core.Bool.{cond, _&&_}
 use mathlib.Core.List.{List}
 use lib.ListN.{length, take, drop}
 use lib.Dec.{leb}
 use Rattle.digits.specs.Packed.{goodField, value}
 use Rattle.digits.specs.declared.amounts.Price.{Price}
 use Rattle.digits.specs.declared.amounts.Quantity.{Quantity}
-use Rattle.digits.specs.declared.amounts.Pair.{Pair}
 use Rattle.digits.specs.declared.amounts.PriceField.{PriceField}
 use Rattle.digits.specs.declared.amounts.QuantityField.{QuantityField}
 use Rattle.digits.specs.declared.amounts.PairField.{PairField}

@@ -1,7 +1,7 @@
 -- Packed digits: a byte holds two decimal digits, high half first; a half above 9 is a bad digit; a field 9(n) takes
 -- n / 2 bytes rounded up, and an odd n has a leading zero digit.
 use Prim.Native.Nat.{ℕ, zero, suc, _+_, _*_, _/_, _%_, _^_}
-use mathlib.Core.Bool.{Bool, true, false, _&&_}
+use mathlib.Core.Bool.{Bool, true, _&&_}
 use mathlib.Core.List.{List, [], _∷_}
 use lib.Dec.{leb, ltb}
 

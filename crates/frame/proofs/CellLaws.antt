@@ -1,13 +1,13 @@
 -- The laws of layouts, by induction over the cells: what is written is read, and what is read is written.
-use Prim.Native.Nat.{ℕ, zero, suc, _+_, _-_, _^_, _≤_, _<_}
-use mathlib.Core.Path.{_≡_, refl, sym, ap, ap₂, _∙_, subst}
-use mathlib.Core.Bool.{Bool, true, false, _&&_, and-assoc}
+use Prim.Native.Nat.{ℕ, suc, _+_, _-_, _^_, _≤_}
+use mathlib.Core.Path.{_≡_, refl, sym, ap, ap₂, _∙_}
+use mathlib.Core.Bool.{Bool, true, _&&_, and-assoc}
 use mathlib.Core.List.{List, [], _∷_, _++_, append-assoc}
 use native.Mathlib.Omega.{arith}
-use lib.ListN.{length, getD, take, drop, length-append, length-drop, take-append-drop}
-use lib.Seq.{take-at, drop-at, length-take-le, take-add, drop-drop, take-all, drop-cons, take-suc}
+use lib.ListN.{length, getD, take, drop, length-append, length-drop}
+use lib.Seq.{take-at, drop-at, length-take-le, take-add, drop-drop}
 use borrow.Author.Tests.{lt-ltb, ltb-true}
-use Rattle.digits.specs.Packed.{width, goodField, value, packed}
+use Rattle.digits.specs.Packed.{width}
 use Rattle.digits.proofs.Bools.{and-left, and-right, and-both, no-false}
 use Rattle.digits.proofs.PackedLaws.{length-packed, value-field-packed, good-field-packed, packed-field-value, value-field-lt}
 use Rattle.frame.specs.Cells.{Cell, raw, digits, cellSize, cellGood, cellValue, cellFits, cellBytes, size, goodCells, decode, fits, encode}

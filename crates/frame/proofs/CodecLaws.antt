@@ -1,16 +1,16 @@
 -- Both round trips, once for every format: reading a written frame gives the message, writing a read message gives the bytes.
-use Prim.Native.Nat.{ℕ, zero, suc, _+_, _^_, _≤_, _<_}
-use mathlib.Core.Path.{_≡_, refl, sym, ap, _∙_, subst}
-use mathlib.Core.Bool.{Bool, true, false, _&&_}
+use Prim.Native.Nat.{ℕ, _+_, _^_, _≤_, _<_}
+use mathlib.Core.Path.{_≡_, sym, ap, _∙_, subst}
+use mathlib.Core.Bool.{Bool, true, _&&_}
 use mathlib.Core.List.{List, [], _∷_, _++_}
 use native.Mathlib.Omega.{arith}
 use lib.ListN.{length, drop, length-drop}
-use lib.Dec.{eqb, leb, ltb}
+use lib.Dec.{leb, ltb}
 use borrow.Author.Tests.{ltb-true, lt-ltb, leb-true}
 use Rattle.digits.proofs.Bools.{and-left, and-right, and-both}
-use Rattle.frame.specs.Cells.{Cell, size, fits, encode, decode, goodCells}
+use Rattle.frame.specs.Cells.{Cell, size, fits, encode}
 use Rattle.frame.specs.Outline.{own, body, business, format, version, number, kindValues, kindCells}
-use Rattle.frame.specs.Format.{Format, valuesOf, ranged, around}
+use Rattle.frame.specs.Format.{valuesOf, ranged, around}
 use Rattle.frame.specs.Writing.{frameAround, frameBytes}
 use Rattle.frame.specs.Codec.{Codec, legal, frameOf}
 use Rattle.frame.proofs.CellLaws.{length-encode, fits-decode}

@@ -1,15 +1,14 @@
 -- A body written is read, and a body that passes its rows is one that was written so.
-use Prim.Native.Nat.{ℕ, zero, suc, _+_, _≤_}
-use mathlib.Core.Path.{_≡_, refl, sym, ap, _∙_}
-use mathlib.Core.Bool.{Bool, true, false, _&&_}
-use mathlib.Core.List.{List, [], _∷_, _++_, append-nil}
+use Prim.Native.Nat.{ℕ}
+use mathlib.Core.Path.{_≡_, sym, ap, _∙_}
+use mathlib.Core.Bool.{true}
+use mathlib.Core.List.{List, [], append-nil}
 use native.Mathlib.Omega.{arith}
 use lib.ListN.{length, take, drop}
-use lib.Seq.{take-all}
-use lib.Dec.{eqb, leb}
+use lib.Dec.{eqb}
 use borrow.Author.Tests.{eq-eqb, eqb-true}
 use Rattle.frame.specs.Cells.{Cell, size, goodCells, decode, fits, encode}
-use Rattle.frame.specs.Rows.{Row, must, firstFail}
+use Rattle.frame.specs.Rows.{firstFail}
 use Rattle.frame.specs.Format.{Format, valuesOf, ranged, bodyRows}
 use Rattle.frame.proofs.CellLaws.{length-encode, good-encode, decode-encode, encode-decode, fits-decode}
 use Rattle.frame.proofs.RowLaws.{row-holds, rows-after}

@@ -1,24 +1,24 @@
 -- The common frame written is read, and a whole outline is one that was written so; whatever bytes follow.
-use Prim.Native.Nat.{ℕ, zero, suc, _+_, _-_, _*_, _^_, _≤_, _<_}
-use mathlib.Core.Path.{_≡_, refl, sym, ap, ap₂, _∙_, subst}
-use mathlib.Core.Bool.{Bool, true, false, cond, _&&_}
+use Prim.Native.Nat.{ℕ, zero, suc, _+_, _-_, _^_, _≤_, _<_}
+use mathlib.Core.Path.{_≡_, refl, sym, ap, ap₂, _∙_}
+use mathlib.Core.Bool.{true, _&&_}
 use mathlib.Core.List.{List, [], _∷_, _++_, append-assoc}
 use native.Mathlib.Omega.{arith}
-use lib.ListN.{length, getD, take, drop, length-append, length-drop, take-append-drop, List·getD-append}
-use lib.Seq.{take-at, drop-at, length-take-le, take-add, drop-drop, take-all, drop-cons, getD-append-add, getD-append-seam, take-append-seam, take-append-le, drop-append-le, getD-take, getD-drop, take-take}
+use lib.ListN.{length, getD, take, drop, length-append, length-drop, take-append-drop}
+use lib.Seq.{take-at, drop-at, length-take-le, take-add, drop-drop, drop-cons, getD-append-add, getD-take}
 use lib.Dec.{eqb, leb}
-use borrow.Author.Tests.{lt-ltb, ltb-true, eq-eqb, le-leb, leb-true, eqb-true}
-use Rattle.digits.specs.Packed.{width, goodField, value, packed}
+use borrow.Author.Tests.{lt-ltb, eq-eqb, le-leb, leb-true, eqb-true}
+use Rattle.digits.specs.Packed.{goodField, value, packed}
 use Rattle.digits.proofs.PackedLaws.{length-packed, value-field-packed, good-field-packed}
 use Rattle.digits.proofs.Bools.{and-left, and-right, and-both}
-use Rattle.frame.specs.Cells.{Cell, raw, digits, size, goodCells, decode, fits, encode}
-use Rattle.frame.specs.Rows.{Row, must, firstFail}
+use Rattle.frame.specs.Cells.{goodCells, decode, fits, encode}
+use Rattle.frame.specs.Rows.{firstFail}
 use Rattle.digits.specs.Check.{xorOf}
 use Rattle.frame.specs.Outline.{business, format, version, number, lengthBytes, lengthOf, own, inner, body, kindCells, headCells, kindValues, checkByte, ended, lengthRight, outlineRows}
 use Rattle.frame.specs.Format.{around}
-use Rattle.frame.specs.Writing.{sealed, headValues, frameAround}
+use Rattle.frame.specs.Writing.{sealed, frameAround}
 use Rattle.frame.proofs.CellLaws.{length-encode, good-encode, decode-encode, encode-decode}
-use Rattle.frame.proofs.RowLaws.{passes, row-holds, rows-after}
+use Rattle.frame.proofs.RowLaws.{row-holds, rows-after}
 
 -- ---- the rows by their names
 pub record Outlined (t : List ℕ) : Type 0 where

@@ -1,17 +1,17 @@
 -- Laws of the shared rules: a test of every byte taken byte by byte, and a time of day at any width.
-use Prim.Native.Nat.{ℕ, suc, _+_, _*_, _/_, _%_, _^_, _≤_, _<_}
-use mathlib.Core.Path.{_≡_, refl, sym, ap, ap₂, _∙_}
+use Prim.Native.Nat.{ℕ, suc, _+_, _/_, _%_, _^_, _≤_, _<_}
+use mathlib.Core.Path.{_≡_, sym, ap, ap₂, _∙_}
 use mathlib.Core.Bool.{Bool, true, false, cond, _&&_, and-false}
 use mathlib.Core.List.{List, [], _∷_}
-use native.Mathlib.Nat.{div-div-eq-div-mul, add-comm}
+use native.Mathlib.Nat.{div-div-eq-div-mul}
 use native.Mathlib.Numerals.{add-one}
 use native.Mathlib.Omega.{arith}
 use lib.ListN.{length, getD, take, drop, replicate, drop-of-length-le}
 use lib.Seq.{drop-cons}
 use lib.Pow.{pow-add}
-use lib.Dec.{leb, ltb, eqb}
-use borrow.Author.Tests.{lt-leb, le-leb, lt-ltb, le-ltb, ne-eqb, eq-eqb}
-use Rattle.frame.specs.Times.{timeOfDay, every, codeAt, codeByte, codeRight, zeroCode}
+use lib.Dec.{leb, ltb}
+use borrow.Author.Tests.{lt-leb, le-leb, lt-ltb, le-ltb}
+use Rattle.frame.specs.Times.{timeOfDay, every, codeAt, codeByte}
 
 -- the next byte and those after it
 pub next-byte : (l : List ℕ) (i : ℕ) → i < length l → drop i l ≡ getD l i 0 ∷ drop (i + 1) l

@@ -1,6 +1,6 @@
 -- The answers by the paper's numbers.
 use Prim.Native.Nat.{ℕ}
-use mathlib.Core.Bool.{Bool, true, false, cond}
+use mathlib.Core.Bool.{cond}
 use lib.Dec.{eqb, leb}
 use Rattle.frame.specs.declared.answer.Frame.{Frame}
 use Rattle.frame.specs.declared.answer.Answer.{Answer}

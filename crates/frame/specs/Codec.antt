@@ -1,6 +1,6 @@
 -- A format's messages: the numbers that a message stands for, and the message that numbers stand for.
-use Prim.Native.Nat.{ℕ, _+_, _^_}
-use mathlib.Core.Bool.{Bool, true, false, _&&_}
+use Prim.Native.Nat.{ℕ, _^_}
+use mathlib.Core.Bool.{Bool, _&&_}
 use mathlib.Core.List.{List}
 use lib.Dec.{ltb}
 use Rattle.frame.specs.Cells.{Cell, size, fits}

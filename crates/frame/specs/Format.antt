@@ -1,13 +1,12 @@
 -- A format: what its row of the table says, the cells of its body, and the rules on what the cells hold.
 use Prim.Native.Nat.{ℕ, _+_}
-use mathlib.Core.Bool.{Bool, true, false, cond, _&&_}
+use mathlib.Core.Bool.{Bool, _&&_}
 use mathlib.Core.List.{List, [], _∷_}
 use lib.ListN.{length}
 use lib.Dec.{eqb, leb}
 use Rattle.frame.specs.Cells.{Cell, size, goodCells, decode}
 use Rattle.frame.specs.Rows.{Row, must, firstFail}
 use Rattle.frame.specs.Answers.{named}
-use Rattle.frame.specs.declared.answer.Frame.{Frame}
 use Rattle.frame.specs.declared.answer.Answer.{Answer}
 
 pub record Format : Type 0 where

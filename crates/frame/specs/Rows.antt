@@ -1,6 +1,6 @@
 -- Checks that go in order: the first that fails answers.
 use Prim.Native.Nat.{ℕ}
-use mathlib.Core.Bool.{Bool, true, false, cond}
+use mathlib.Core.Bool.{Bool, cond}
 use mathlib.Core.List.{List, [], _∷_}
 
 -- a row of the paper's table: the number that it answers, and what has to hold

@@ -1,11 +1,11 @@
 -- A frame written: 27, what it covers, the check byte, 0D 0A; and what a writing answers and leaves.
 use Prim.Native.Nat.{ℕ, _+_, _-_, _^_}
-use mathlib.Core.Bool.{Bool, true, false, cond, _&&_}
+use mathlib.Core.Bool.{Bool, cond, _&&_}
 use mathlib.Core.List.{List, [], _∷_, _++_}
 use lib.ListN.{length, take, drop}
 use lib.Seq.{sets}
 use lib.Dec.{leb, ltb}
-use Rattle.frame.specs.Cells.{Cell, encode, size}
+use Rattle.frame.specs.Cells.{Cell, encode}
 use Rattle.digits.specs.Check.{xorOf}
 use Rattle.frame.specs.Outline.{headCells}
 use Rattle.frame.specs.Format.{Format, around}

@@ -1,6 +1,5 @@
 -- The starred edges hold, by computation.
 use mathlib.Core.Path.{refl}
-use Rattle.frame.specs.Format.{bodyAnswer}
 use Rattle.quotes.specs.Quotes.{pairCells}
 use Rattle.prices.specs.Prices.{slotsCells}
 use Rattle.frames.specs.Reading.{formatOf, rows, answerOf, messageBy}

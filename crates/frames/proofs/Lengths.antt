@@ -2,7 +2,7 @@
 use Prim.Native.Nat.{ℕ, _+_, _≤_, _<_}
 use mathlib.Core.Path.{_≡_, refl, sym, ap, _∙_}
 use mathlib.Core.Bool.{Bool, true, false, cond, _&&_}
-use mathlib.Core.List.{List, [], _∷_, _++_}
+use mathlib.Core.List.{List, _∷_, _++_}
 use native.Mathlib.Omega.{arith}
 use lib.ListN.{length, getD, drop}
 use lib.Dec.{eqb, leb}
@@ -13,7 +13,7 @@ use Rattle.digits.proofs.Bools.{and-left, and-right}
 use Rattle.frame.specs.Cells.{goodCells}
 use Rattle.frame.specs.Rows.{Row, must, firstFail}
 use Rattle.frame.specs.Answers.{named, answerNumber, answerLength}
-use Rattle.frame.specs.Outline.{lengthBytes, lengthOf, own, body, inner, business, format, version, number, checkByte, ended, lengthRight, kindCells, outlineRows}
+use Rattle.frame.specs.Outline.{lengthBytes, lengthOf, own, body, inner, business, format, version, number, checkByte, ended, lengthRight, kindCells}
 use Rattle.frame.specs.Format.{bodyRows}
 use Rattle.frame.specs.declared.answer.Frame.{Frame}
 use Rattle.frame.specs.declared.answer.Answer.the-variants.{Accepted, NoFrame, Refused}

@@ -1,27 +1,25 @@
 -- Acceptance exactly by the rows, and both round trips through the reading of a line; once for any of the four formats.
-use Prim.Native.Nat.{ℕ, _+_, _≤_, _<_}
-use mathlib.Core.Path.{_≡_, refl, sym, ap, ap₂, _∙_, subst}
-use mathlib.Core.Bool.{Bool, true, false, cond, _&&_}
-use mathlib.Core.List.{List, [], _∷_, _++_}
+use Prim.Native.Nat.{ℕ, _+_, _≤_}
+use mathlib.Core.Path.{_≡_, refl, sym, ap, ap₂, _∙_}
+use mathlib.Core.Bool.{Bool, true, false, cond}
+use mathlib.Core.List.{List, _++_}
 use mathlib.Core.Logic.{_↔_}
-use native.Mathlib.Omega.{arith}
-use lib.ListN.{length, drop, length-append}
+use lib.ListN.{length, drop}
 use lib.Dec.{eqb, leb}
-use borrow.Author.Tests.{eqb-true, eqb-false, eq-eqb, ne-eqb, le-leb}
-use Rattle.digits.proofs.Bools.{and-left, and-right, and-both, no-false}
-use Rattle.frame.specs.Rows.{Row, firstFail}
+use borrow.Author.Tests.{eqb-true, le-leb}
+use Rattle.digits.proofs.Bools.{and-left}
+use Rattle.frame.specs.Rows.{firstFail}
 use Rattle.frame.specs.Answers.{named, answerNumber}
 use Rattle.frame.specs.Outline.{lengthOf, own, body, business, format, version, number, outlineRows}
 use Rattle.frame.specs.Format.{Format, valuesOf, bodyRows}
 use Rattle.frame.specs.Writing.{writtenOver}
 use Rattle.frame.specs.Codec.{Codec, legal, frameOf}
 use Rattle.frame.specs.declared.answer.Frame.{Frame}
-use Rattle.frame.specs.declared.answer.Answer.{Answer}
 use Rattle.frame.specs.declared.answer.Answer.the-variants.{Accepted, NoFrame, Refused}
 use Rattle.frame.proofs.RowLaws.{firstFail-append}
-use Rattle.frame.proofs.OutlineLaws.{Outlined, outlined-passes, passes-outlined, length-own}
-use Rattle.frame.proofs.FormatLaws.{Bodied, bodied-passes, passes-bodied}
-use Rattle.frame.proofs.CodecLaws.{Lawful, Reads, read-written, written-read, legal-read, own-frameOf}
+use Rattle.frame.proofs.OutlineLaws.{Outlined, passes-outlined}
+use Rattle.frame.proofs.FormatLaws.{bodied-passes, passes-bodied}
+use Rattle.frame.proofs.CodecLaws.{Lawful, Reads, read-written, written-read, legal-read}
 use Rattle.notices.specs.Notices.{fiveCodec, noNotice, ShapedNotice}
 use Rattle.notices.proofs.NoticeLaws.{notices-lawful}
 use Rattle.quotes.specs.Quotes.{sixCodec, noQuote, ShapedQuote}

@@ -1,19 +1,17 @@
 -- The starred edges of the paper that concern frames, as one list.
 use Prim.Native.Nat.{ℕ, _+_}
-use mathlib.Core.Path.{_≡_, refl}
-use mathlib.Core.List.{List, [], _∷_, _++_}
+use mathlib.Core.Path.{_≡_}
+use mathlib.Core.List.{List, [], _∷_}
 use lib.ListN.{take, replicate}
-use Rattle.frame.specs.Cells.{size}
-use Rattle.frame.specs.Format.{around}
 use Rattle.frame.specs.Writing.{frameAround}
 use Rattle.frame.specs.declared.answer.Answer.the-variants.{Accepted, NoFrame, Refused}
 use Rattle.notices.specs.Notices.{fiveCodec, noNotice}
-use Rattle.quotes.specs.Quotes.{trades, bidLevels, askLevels, pairCount, pairCells, sixCells}
+use Rattle.quotes.specs.Quotes.{trades, bidLevels, askLevels, pairCount}
 use Rattle.halts.specs.Halts.{nineteenCodec, noHalt}
 use Rattle.halts.specs.declared.Event.the-variants.{Halted}
 use Rattle.halts.specs.declared.Resume.the-variants.{Open}
 use Rattle.halts.specs.declared.Sending.the-variants.{Instant}
-use Rattle.frames.specs.Reading.{formatOf, rows, answerOf, messageBy}
+use Rattle.frames.specs.Reading.{answerOf, messageBy}
 
 -- the 14-byte notice of the listing, with its check byte and its last byte
 abbrev pub notice : ℕ → ℕ → List ℕ

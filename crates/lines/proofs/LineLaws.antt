@@ -1,28 +1,26 @@
 -- The reading of the stock exchange's frames is sound, with and without the messages, so the laws of a walk hold of its lines.
-use Prim.Native.Nat.{ℕ, _+_, _-_, _≤_, _<_}
+use Prim.Native.Nat.{ℕ, _+_, _-_, _≤_}
 use mathlib.Core.Path.{_≡_, refl, sym, ap, _∙_}
-use mathlib.Core.Bool.{Bool, true, false, cond, _||_}
-use mathlib.Core.List.{List, [], _∷_, _++_, map, flatten}
+use mathlib.Core.Bool.{Bool, true, cond, _||_}
+use mathlib.Core.List.{List, _++_}
 use native.Mathlib.Omega.{arith}
-use lib.ListN.{length, drop}
 use lib.Dec.{eqb, leb}
-use borrow.Author.Tests.{eqb-false, ne-eqb, lt-leb}
+use borrow.Author.Tests.{ne-eqb, lt-leb}
 use Rattle.digits.proofs.Bools.{no-false}
-use Rattle.frame.specs.Answers.{answerNumber, answerLength}
+use Rattle.frame.specs.Answers.{answerNumber}
 use Rattle.frame.specs.declared.answer.Answer.{Answer}
 use Rattle.frame.specs.declared.answer.Answer.the-variants.{Accepted, NoFrame, Refused}
 use Rattle.notices.specs.Notices.{fiveCodec, noNotice}
 use Rattle.quotes.specs.Quotes.{sixCodec, noQuote}
 use Rattle.prices.specs.Prices.{twelveCodec, noPrices}
 use Rattle.halts.specs.Halts.{nineteenCodec, noHalt}
-use Rattle.frames.specs.Reading.{answerOf, messageBy}
-use Rattle.frames.specs.Edges.{Edges}
+use Rattle.frames.specs.Reading.{answerOf}
 use Rattle.frames.proofs.EdgesHold.{edges-hold}
 use Rattle.frames.proofs.MoreBytes.{answer-more, message-more}
 use Rattle.frames.proofs.Lengths.{whole-within, waits-short}
-use Rattle.walk.specs.Walk.{Reading, Move, isWhole, walk, walkFrom, restOf}
+use Rattle.walk.specs.Walk.{isWhole, walk}
 use Rattle.walk.specs.Sound.{Sound}
-use Rattle.lines.specs.Lines.{answers, longest, Message, messageIn, quote, prices, halt, notice, none, Saying, sayings}
+use Rattle.lines.specs.Lines.{answers, longest, messageIn, quote, prices, halt, notice, none, sayings}
 
 -- 0 and 6 to 13 are none of 1 to 5
 not-small : (n : ℕ) → isWhole n ≡ true → 1 ≤ n → n ≤ 5 → ⊥

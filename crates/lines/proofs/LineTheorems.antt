@@ -1,20 +1,19 @@
 -- What the laws of a walk say of the stock exchange's line.
 use Prim.Native.Nat.{ℕ, _+_, _≤_, _<_}
-use mathlib.Core.Path.{_≡_, refl, sym, ap, _∙_}
+use mathlib.Core.Path.{_≡_, refl}
 use mathlib.Core.Bool.{Bool, true, false}
 use mathlib.Core.List.{List, [], _++_, map, flatten}
 use lib.ListN.{length, drop}
-use Rattle.frame.specs.declared.answer.Answer.{Answer}
-use Rattle.walk.specs.Walk.{Reading, Move, walk, walkFrom, restOf}
-use Rattle.walk.specs.Tally.{largest, isAccepted, isRefused, isSkipped, bytesOf, tallyOf}
+use Rattle.walk.specs.Walk.{Move, walk, walkFrom, restOf}
+use Rattle.walk.specs.Tally.{largest, tallyOf}
 use Rattle.walk.specs.Rows.{rowsOf}
 use Rattle.walk.specs.Pieces.{reach, inPieces}
 use Rattle.walk.specs.Told.{moveOf, fresh}
 use Rattle.walk.specs.Listed.{rowsByCalls}
 use Rattle.walk.proofs.MoreLaws.{walk-more, rest-short, rest-closed}
 use Rattle.walk.proofs.FigureLaws.{figures-add-up, Each, walk-says}
-use Rattle.walk.proofs.RowLaws.{pieces-are-rows, bytes-rows}
-use Rattle.walk.proofs.MapLaws.{less, walk-map}
+use Rattle.walk.proofs.RowLaws.{pieces-are-rows}
+use Rattle.walk.proofs.MapLaws.{walk-map}
 use Rattle.walk.proofs.ListedLaws.{calls-are-rows}
 use Rattle.frames.specs.Reading.{answerOf}
 use Rattle.lines.specs.Lines.{answers, longest, Saying, sayings}

@@ -13,9 +13,9 @@ use Rattle.frame.specs.declared.answer.Answer.the-variants.{NoFrame}
 use Rattle.frame.proofs.OutlineSteps.{row-first}
 use Rattle.frames.specs.Reading.{answerOf}
 use Rattle.frames.proofs.ReadingLaws.{answer-not}
-use Rattle.walk.specs.Walk.{Move, stops, taken, walkFrom, restOf}
+use Rattle.walk.specs.Walk.{walkFrom}
 use Rattle.walk.specs.Answers.{pastOf}
-use Rattle.walk.specs.Tally.{largest, hasRoom, movedOn, capped, rowFigures, tallyOf, talliedOf}
+use Rattle.walk.specs.Tally.{largest, movedOn, capped, rowFigures, tallyOf}
 use Rattle.walk.specs.Noise.{noiseLength}
 use Rattle.walk.specs.Told.{toldOf, onTold, nextOf}
 use Rattle.walk.specs.declared.tally.Tally.{Tally}
@@ -32,7 +32,6 @@ use Rattle.walk.proofs.NoiseLaws.{noise-next}
 use Rattle.lines.specs.Lines.{answers, longest, moveAt}
 use Rattle.lines.specs.Steps.{stretchOf}
 use Rattle.lines.specs.declared.pieces.Stretch.{Stretch}
-use Rattle.lines.specs.declared.moves.Step.{Step}
 use Rattle.lines.specs.declared.moves.Step.the-variants.{Moved, Stopped}
 use Rattle.lines.proofs.LineLaws.{sound-answers}
 

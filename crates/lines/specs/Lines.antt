@@ -1,8 +1,8 @@
 -- The stock exchange's line: its reading, with and without the messages, and what the calls say of a walk over it.
-use Prim.Native.Nat.{ℕ, _+_}
-use mathlib.Core.Bool.{Bool, true, false, cond}
+use Prim.Native.Nat.{ℕ}
+use mathlib.Core.Bool.{Bool, cond}
 use mathlib.Core.List.{List}
-use lib.ListN.{length, drop}
+use lib.ListN.{drop}
 use lib.Dec.{eqb}
 use Rattle.frame.specs.Answers.{answerNumber, answerLength}
 use Rattle.frame.specs.declared.answer.Answer.{Answer}

@@ -1,8 +1,8 @@
 -- The rows of a quote's body, and what each step of reading it answers.
-use Prim.Native.Nat.{ℕ, zero, suc, _+_, _-_, _*_, _/_, _%_, _≤_, _<_}
-use mathlib.Core.Path.{_≡_, refl, sym, ap, ap₂, _∙_}
+use Prim.Native.Nat.{ℕ, _+_, _-_, _*_, _≤_, _<_}
+use mathlib.Core.Path.{_≡_, sym, ap, ap₂, _∙_}
 use mathlib.Core.Bool.{Bool, true, false, cond, _&&_, and-false}
-use mathlib.Core.List.{List, [], _∷_, _++_}
+use mathlib.Core.List.{List, _++_}
 use native.Mathlib.Omega.{arith}
 use lib.ListN.{length, getD, take, drop}
 use lib.Seq.{drop-drop}
@@ -19,9 +19,7 @@ use Rattle.frame.specs.Format.{valuesOf, ranged, bodyRows, around}
 use Rattle.frame.specs.Times.{timeOfDay, nines, zeroCode, codeRight}
 use Rattle.frame.proofs.CellLaws.{length-decode}
 use Rattle.frame.proofs.RuleLaws.{six-bytes}
-use Rattle.quotes.specs.declared.quote.Quote.{Quote}
-use Rattle.quotes.specs.declared.quote.QuoteReading.{QuoteReading}
-use Rattle.quotes.specs.Quotes.{trades, bidLevels, askLevels, pairCount, pairCells, sixCells, codeOf, timeOf, revealOf, sixLevels, sixTimed, sixRuled, six, noPair, pairsOf, pairsIn, padded, tradePart, bidPart, askPart, quoteOf, quoteReading}
+use Rattle.quotes.specs.Quotes.{trades, bidLevels, askLevels, pairCount, pairCells, sixCells, codeOf, timeOf, sixLevels, sixTimed, six, noPair, pairsOf, pairsIn, padded, tradePart, bidPart, askPart, quoteReading}
 use Rattle.quotes.specs.Steps.{refusedReading, acceptedReading, Dictated, Parts}
 use Rattle.quotes.proofs.PairLaws.{length-pairsOf, length-pairCells, first-part, second-part, third-part}
 use Rattle.quotes.proofs.QuoteLaws.{quoteWith, reveal-read}

@@ -1,18 +1,15 @@
 -- Laws of pairs: numbers as pairs and back, the three parts of a frame's pairs, and the zeros behind a side's levels.
-use Prim.Native.Nat.{ℕ, zero, suc, _+_, _-_, _*_, _/_, _%_, _≤_, _<_}
+use Prim.Native.Nat.{ℕ, zero, suc, _+_, _-_, _*_, _≤_, _<_}
 use mathlib.Core.Path.{_≡_, refl, sym, ap, ap₂, _∙_}
-use mathlib.Core.Bool.{Bool, true, false, _&&_}
+use mathlib.Core.Bool.{true}
 use mathlib.Core.List.{List, [], _∷_, _++_}
 use native.Mathlib.Omega.{arith}
 use lib.ListN.{length, getD, take, drop, replicate, length-append, length-drop, length-replicate, take-append-drop}
-use lib.Seq.{take-at, drop-at, length-take-le, take-all, take-length, drop-drop, take-add}
+use lib.Seq.{take-at, drop-at, length-take-le, take-all}
 use lib.Dec.{eqb}
 use borrow.Author.Tests.{eqb-true}
 use Rattle.digits.specs.declared.amounts.Pair.{Pair}
-use Rattle.digits.proofs.Bools.{and-left, and-right, and-both}
-use Rattle.frame.specs.Cells.{Cell, digits, size, decode}
-use Rattle.frame.specs.Times.{every}
-use Rattle.frame.proofs.CellLaws.{length-decode}
+use Rattle.digits.proofs.Bools.{and-left, and-right}
 use Rattle.quotes.specs.Quotes.{pair, noPair, pairsOf, flat, sideRoom, padded, zeroPairs, pairCells}
 
 -- ---- numbers as pairs

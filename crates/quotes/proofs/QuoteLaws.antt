@@ -1,19 +1,19 @@
 -- Format six is lawful: a quote and its numbers tell each other. So both round trips hold of it.
-use Prim.Native.Nat.{ℕ, zero, suc, _+_, _-_, _*_, _/_, _%_, _≤_, _<_}
-use mathlib.Core.Path.{_≡_, refl, sym, ap, ap₂, _∙_, subst}
-use mathlib.Core.Bool.{Bool, true, false, _&&_}
+use Prim.Native.Nat.{ℕ, _+_, _-_, _*_, _≤_, _<_}
+use mathlib.Core.Path.{_≡_, refl, sym, ap, _∙_, subst}
+use mathlib.Core.Bool.{true, _&&_}
 use mathlib.Core.List.{List, [], _∷_, _++_}
 use native.Mathlib.Omega.{arith}
-use lib.ListN.{length, getD, take, drop, length-drop, length-append}
+use lib.ListN.{length, getD, take, drop, length-drop}
 use lib.Seq.{getD-take, getD-drop, length-take-le}
-use lib.Dec.{eqb, leb, lit<, lit≤}
-use borrow.Author.Tests.{leb-true, eqb-true}
+use lib.Dec.{leb, lit<, lit≤}
+use borrow.Author.Tests.{leb-true}
 use Rattle.digits.specs.Amounts.{asQuantity}
 use Rattle.digits.specs.declared.amounts.Pair.{Pair}
 use Rattle.digits.proofs.Bools.{and-left, and-right, and-both}
-use Rattle.frame.specs.Cells.{Cell, raw, digits, size, decode, encode, fits}
-use Rattle.frame.specs.Format.{Format, valuesOf, ranged, around}
-use Rattle.frame.specs.Codec.{Codec, legal, frameOf}
+use Rattle.frame.specs.Cells.{decode, encode}
+use Rattle.frame.specs.Format.{Format, valuesOf}
+use Rattle.frame.specs.Codec.{legal, frameOf}
 use Rattle.frame.specs.Outline.{own}
 use Rattle.frame.proofs.CellLaws.{length-decode}
 use Rattle.frame.proofs.FormatLaws.{Bodied}

@@ -1,41 +1,35 @@
 -- A quote's body read by its parts: the rows one after the other, and the message where all hold.
-use Prim.Native.Nat.{ℕ, zero, suc, _+_, _-_, _*_, _/_, _%_, _^_, _≤_, _<_}
+use Prim.Native.Nat.{ℕ, zero, suc, _+_, _-_, _*_, _/_, _^_, _≤_, _<_}
 use mathlib.Core.Path.{_≡_, refl, sym, ap, ap₂, _∙_}
-use mathlib.Core.Bool.{Bool, true, false, cond, _&&_, and-assoc}
-use mathlib.Core.List.{List, [], _∷_, _++_}
+use mathlib.Core.Bool.{Bool, true, false, cond, _&&_}
+use mathlib.Core.List.{List, [], _∷_}
 use native.Mathlib.Omega.{arith}
-use lib.ListN.{length, getD, take, drop, length-drop, take-append-drop}
+use lib.ListN.{length, getD, take, drop, length-drop}
 use lib.Seq.{drop-drop, getD-take, getD-drop, length-take-le, take-take}
-use lib.Dec.{eqb, leb, ltb, lit<}
-use borrow.Author.Tests.{eq-eqb, ne-eqb, eqb-true, eqb-false, le-leb, lt-leb}
-use Rattle.digits.specs.Packed.{good, goodField, value, valueFrom}
+use lib.Dec.{eqb, lit<}
+use borrow.Author.Tests.{eq-eqb, ne-eqb, eqb-true, eqb-false}
+use Rattle.digits.specs.Packed.{good, goodField, value}
 use Rattle.digits.specs.Halves.{halvesAt, halvesOf, noHalves}
 use Rattle.digits.specs.Amounts.{asQuantity, quantityAt, quantityOf}
 use Rattle.digits.specs.declared.amounts.Pair.{Pair}
 use Rattle.digits.specs.declared.amounts.Quantity.{Quantity}
 use Rattle.digits.specs.declared.amounts.QuantityField.{QuantityField}
 use Rattle.digits.specs.declared.halves.Halves.{Halves}
-use Rattle.digits.proofs.Bools.{and-left, and-right, and-both, no-false}
+use Rattle.digits.proofs.Bools.{and-left, and-right, no-false}
 use Rattle.digits.proofs.PackedLaws.{value-lt, value-parts}
 use Rattle.digits.proofs.Places.{inside}
 use Rattle.digits.proofs.Values.{good-split, even-field}
-use Rattle.frame.specs.Cells.{Cell, size, goodCells, decode}
+use Rattle.frame.specs.Cells.{size, goodCells, decode}
 use Rattle.frame.specs.Rows.{firstFail}
 use Rattle.frame.specs.Answers.{named}
-use Rattle.frame.specs.Format.{Format, valuesOf, ranged, bodyRows, bodyAnswer, around}
-use Rattle.frame.specs.Times.{timeOfDay, nines, zeroCode, codeRight}
+use Rattle.frame.specs.Format.{valuesOf, bodyRows, bodyAnswer, around}
+use Rattle.frame.specs.Times.{timeOfDay, nines}
 use Rattle.frame.specs.declared.answer.Frame.{Frame}
-use Rattle.frame.specs.declared.answer.Answer.the-variants.{Accepted}
-use Rattle.frame.proofs.OutlineLaws.{take-drop-cons}
 use Rattle.frame.proofs.RuleLaws.{time-width}
-use Rattle.quotes.specs.declared.quote.Quote.{Quote}
 use Rattle.quotes.specs.declared.quote.QuoteReading.{QuoteReading}
-use Rattle.quotes.specs.Quotes.{trades, bidLevels, askLevels, pairCount, pairCells, sixCells, codeOf, timeOf, revealOf, sixLevels, sixTimed, sixRuled, six, noPair, noQuote, pairsOf, pairsIn, padded, tradePart, bidPart, askPart, quoteOf, quoteReading}
-use Rattle.quotes.specs.Steps.{refusedReading, acceptedReading, Dictated, Parts}
-use Rattle.quotes.proofs.PairLaws.{length-pairsOf, length-pairCells, first-part, second-part, third-part}
-use Rattle.quotes.proofs.QuoteLaws.{quoteWith, reveal-read}
-use Rattle.quotes.proofs.SideLaws.{good-append, pairs-append}
-use Rattle.frame.proofs.CellLaws.{length-decode}
+use Rattle.quotes.specs.Quotes.{pairCells, sixCells, codeOf, timeOf, six, noPair, noQuote, pairsOf, pairsIn, padded, quoteOf, quoteReading}
+use Rattle.quotes.specs.Steps.{Parts}
+use Rattle.quotes.proofs.SideLaws.{good-append}
 
 -- ---- the time's two parts, HHMM and SSffffff
 module _ (first last : ℕ) (hf : first < 10000) (hl : last < 100000000) where

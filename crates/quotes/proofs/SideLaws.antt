@@ -3,18 +3,17 @@ use Prim.Native.Nat.{ℕ, zero, suc, _+_, _-_, _*_, _≤_, _<_}
 use mathlib.Core.Path.{_≡_, refl, sym, ap, ap₂, _∙_}
 use mathlib.Core.Bool.{Bool, true, false, cond, _&&_, and-assoc}
 use mathlib.Core.List.{List, [], _∷_, _++_, append-assoc}
-use native.Mathlib.Nat.{add-zero, sub-zero}
 use native.Mathlib.Numerals.{add-one}
 use native.Mathlib.Omega.{arith}
 use lib.ListN.{length, take, drop, set, replicate, length-set, length-drop, take-append-drop}
-use lib.Seq.{drop-drop, take-take, take-add, drop-at, length-take-le, take-suc-set, drop-set-lt, take-all}
+use lib.Seq.{drop-drop, take-take, take-add, drop-at, length-take-le, take-suc-set, drop-set-lt}
 use Rattle.digits.specs.Packed.{goodField, value}
 use Rattle.digits.specs.Amounts.{pairOf, pairAt}
 use Rattle.digits.specs.declared.amounts.Pair.{Pair}
 use Rattle.digits.specs.declared.amounts.PairField.{PairField}
 use Rattle.digits.proofs.Places.{inside}
-use Rattle.frame.specs.Cells.{goodCells, decode}
-use Rattle.quotes.specs.Quotes.{pair, noPair, pairCells, pairsOf, pairsIn, padded, sideRoom}
+use Rattle.frame.specs.Cells.{goodCells}
+use Rattle.quotes.specs.Quotes.{pair, noPair, pairCells, pairsIn, padded, sideRoom}
 
 -- the end of a part
 drop-take : (m n : ℕ) (l : List ℕ) → m ≤ length l → drop m (take (m + n) l) ≡ take n (drop m l)

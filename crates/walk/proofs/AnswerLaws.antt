@@ -1,21 +1,21 @@
 -- What a walk over answers does at a place of a line: where it stops, how it moves, and the turns of a count over it.
-use Prim.Native.Nat.{ℕ, _+_, _-_, _≤_, _<_, min}
-use mathlib.Core.Path.{_≡_, refl, sym, ap, ap₂, _∙_}
+use Prim.Native.Nat.{ℕ, _+_, _-_, _≤_, _<_}
+use mathlib.Core.Path.{_≡_, refl, sym, ap, _∙_}
 use mathlib.Core.Bool.{Bool, true, false, cond, not, _&&_, _||_}
 use mathlib.Core.List.{List, [], _∷_}
 use native.Mathlib.Omega.{arith}
 use lib.ListN.{length, drop, length-drop}
 use lib.Seq.{drop-drop}
-use lib.Dec.{eqb, leb}
-use borrow.Author.Tests.{eqb-true, eqb-false, eq-eqb, ne-eqb}
-use Rattle.frame.specs.Answers.{answerNumber, answerLength}
+use lib.Dec.{eqb}
+use borrow.Author.Tests.{eqb-true, ne-eqb}
+use Rattle.frame.specs.Answers.{answerNumber}
 use Rattle.frame.specs.declared.answer.Answer.{Answer}
-use Rattle.walk.specs.Walk.{Reading, Move, isWhole, taken, stops, walkFrom, walk, restOf}
+use Rattle.walk.specs.Walk.{Reading, Move, taken, stops, walkFrom, walk, restOf}
 use Rattle.walk.specs.Sound.{Sound}
 use Rattle.walk.specs.Answers.{answering, pastOf}
-use Rattle.walk.specs.Tally.{isAccepted, isRefused, isSkipped, bytesOf, figuresOf, tallyOf, noBytes, largest, movedOn, capped, rowFigures}
+use Rattle.walk.specs.Tally.{isAccepted, isRefused, isSkipped, bytesOf, tallyOf, noBytes, largest, movedOn, capped, rowFigures}
 use Rattle.walk.specs.declared.tally.Tally.{Tally}
-use Rattle.walk.proofs.WalkLaws.{front, step, behind, stops-at-end, takes-some, takes-within, walk-stops, walk-moves}
+use Rattle.walk.proofs.WalkLaws.{step, behind, stops-at-end, takes-some, takes-within, walk-stops, walk-moves}
 use Rattle.walk.proofs.FigureLaws.{one-kind}
 
 module _ (says : List ℕ → Answer) (longest : ℕ) (S : Sound (answering says) longest) where

@@ -1,14 +1,14 @@
 -- The figures of a walk add up to the line's length, and each move says what the reading says at its place.
-use Prim.Native.Nat.{ℕ, zero, suc, _+_, _-_, _≤_, _<_}
-use mathlib.Core.Path.{_≡_, refl, sym, ap, ap₂, _∙_}
-use mathlib.Core.Bool.{Bool, true, false, cond, not, _&&_, _||_}
-use mathlib.Core.List.{List, [], _∷_, _++_, map}
+use Prim.Native.Nat.{ℕ, _+_, _-_, _≤_}
+use mathlib.Core.Path.{_≡_, refl, sym, ap, _∙_}
+use mathlib.Core.Bool.{Bool, true, false, cond, not, _||_}
+use mathlib.Core.List.{List, [], _∷_}
 use native.Mathlib.Omega.{arith}
 use lib.ListN.{length, drop, length-drop}
 use lib.Seq.{drop-drop}
 use lib.Dec.{eqb, leb}
-use borrow.Author.Tests.{eqb-true, eqb-false, leb-true}
-use Rattle.walk.specs.Walk.{Reading, Move, isWhole, taken, stops, walkFrom, walk, restOf}
+use borrow.Author.Tests.{eqb-true, leb-true}
+use Rattle.walk.specs.Walk.{Reading, Move, taken, stops, walkFrom, walk, restOf}
 use Rattle.walk.specs.Sound.{Sound}
 use Rattle.walk.specs.Tally.{isAccepted, isRefused, isSkipped, bytesOf, tallyOf}
 use Rattle.walk.proofs.WalkLaws.{front, step, behind, takes-within, walk-stops, walk-moves, walk-induct}

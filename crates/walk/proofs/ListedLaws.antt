@@ -1,15 +1,15 @@
 -- However a line is cut, the rows that a program gives call by call are the rows of the whole line.
 use Prim.Native.Nat.{ℕ, zero, suc, _+_, _-_, _≤_, _<_}
 use mathlib.Core.Path.{_≡_, refl, sym, ap, _∙_}
-use mathlib.Core.Bool.{Bool, true, false, cond, not, _&&_}
+use mathlib.Core.Bool.{Bool, true, false, cond}
 use mathlib.Core.List.{List, [], _∷_, _++_, map, append-assoc, append-nil, flatten}
 use native.Mathlib.Omega.{arith}
 use lib.ListN.{length, drop, length-drop, length-append}
 use lib.Seq.{drop-append-le, drop-drop}
-use lib.Dec.{eqb, leb}
+use lib.Dec.{eqb}
 use borrow.Author.Tests.{le-leb}
 use Rattle.frame.specs.declared.answer.Answer.{Answer}
-use Rattle.walk.specs.Walk.{Reading, Move, taken, stops, walkFrom, walk, restOf}
+use Rattle.walk.specs.Walk.{Reading, Move, taken, stops, walkFrom, walk}
 use Rattle.walk.specs.Sound.{Sound}
 use Rattle.walk.specs.Answers.{answering}
 use Rattle.walk.specs.Tally.{largest}
@@ -17,7 +17,6 @@ use Rattle.walk.specs.Rows.{rowsOf}
 use Rattle.walk.specs.Pieces.{given}
 use Rattle.walk.specs.Told.{moveOf, fresh, holds, toldOf, onTold, nextOf}
 use Rattle.walk.specs.Listed.{lastRow, isLast, afterCall, rowsByCalls}
-use Rattle.walk.specs.declared.rows.Row.{Row}
 use Rattle.walk.specs.declared.rows.Kept.{Kept}
 use Rattle.walk.specs.declared.rows.Told.{Told}
 use Rattle.walk.specs.declared.rows.Told.the-variants.{Nothing, One, Two, Full}

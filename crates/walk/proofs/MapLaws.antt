@@ -1,11 +1,11 @@
 -- Two readings of the same frames, one of which says more: their walks make the same moves.
 use Prim.Native.Nat.{ℕ, _+_}
-use mathlib.Core.Path.{_≡_, refl, sym, ap, _∙_}
+use mathlib.Core.Path.{_≡_, sym, ap, _∙_}
 use mathlib.Core.Bool.{Bool, true, false, cond, not, _&&_, _||_}
-use mathlib.Core.List.{List, [], _∷_, map}
+use mathlib.Core.List.{List, _∷_, map}
 use lib.ListN.{length, drop}
 use lib.Dec.{eqb}
-use Rattle.walk.specs.Walk.{Reading, Move, isWhole, taken, stops, walkFrom, restOf}
+use Rattle.walk.specs.Walk.{Reading, Move, isWhole, stops, walkFrom, restOf}
 use Rattle.walk.specs.Sound.{Sound}
 use Rattle.walk.proofs.WalkLaws.{front, step, behind, walk-stops, walk-moves, walk-induct}
 

@@ -1,18 +1,18 @@
 -- Bytes that follow take no move back: only what waits may turn into further moves.
-use Prim.Native.Nat.{ℕ, zero, suc, _+_, _-_, _≤_, _<_}
-use mathlib.Core.Path.{_≡_, refl, sym, ap, ap₂, _∙_}
-use mathlib.Core.Bool.{Bool, true, false, cond, not, _&&_, _||_}
-use mathlib.Core.List.{List, [], _∷_, _++_}
+use Prim.Native.Nat.{ℕ, _+_, _-_, _≤_, _<_}
+use mathlib.Core.Path.{_≡_, refl, sym, ap, _∙_}
+use mathlib.Core.Bool.{Bool, true, false, not, _&&_, _||_}
+use mathlib.Core.List.{List, _∷_, _++_}
 use native.Mathlib.Omega.{arith}
-use lib.ListN.{length, drop, length-drop, length-append}
+use lib.ListN.{length, drop, length-drop}
 use lib.Seq.{drop-append-le, drop-drop}
-use lib.Dec.{eqb, leb}
-use borrow.Author.Tests.{eqb-true, eqb-false, eq-eqb, ne-eqb}
-use Rattle.digits.proofs.Bools.{and-left, and-right, no-false}
-use Rattle.walk.specs.Walk.{Reading, Move, isWhole, taken, stops, walkFrom, restOf}
+use lib.Dec.{eqb}
+use borrow.Author.Tests.{eqb-true, eqb-false}
+use Rattle.digits.proofs.Bools.{and-left, and-right}
+use Rattle.walk.specs.Walk.{Reading, Move, taken, stops, walkFrom, restOf}
 use Rattle.walk.specs.Sound.{Sound}
 use Rattle.walk.specs.Pieces.{reach}
-use Rattle.walk.proofs.WalkLaws.{front, step, behind, stops-at-end, moves-before-end, takes-some, takes-within, behind-less, walk-stops, walk-moves, walk-induct}
+use Rattle.walk.proofs.WalkLaws.{front, step, behind, takes-within, behind-less, walk-stops, walk-moves, walk-induct}
 
 module _ {A : Type 0} (R : Reading A) (longest : ℕ) (S : Sound R longest) where
   -- ---- what waits

@@ -1,29 +1,25 @@
 -- The next rows of a line from a place on: one call gives the first of the rows that the moves give, and keeps what they keep.
 use Prim.Native.Nat.{ℕ, _+_, _-_, _≤_, _<_}
-use mathlib.Core.Path.{_≡_, refl, sym, ap, _∙_}
-use mathlib.Core.Bool.{Bool, true, false, cond, not, _&&_}
-use mathlib.Core.List.{List, [], _∷_, _++_}
+use mathlib.Core.Path.{_≡_, sym, ap}
+use mathlib.Core.Bool.{Bool, true, false, cond}
+use mathlib.Core.List.{List}
 use native.Mathlib.Omega.{arith}
 use lib.ListN.{length, drop}
-use lib.Seq.{drop-drop}
-use lib.Dec.{eqb, leb}
+use lib.Dec.{eqb}
 use Rattle.frame.specs.Answers.{answerNumber}
 use Rattle.frame.specs.declared.answer.Answer.{Answer}
-use Rattle.walk.specs.Walk.{Reading, Move, isWhole, stops, walkFrom, restOf}
+use Rattle.walk.specs.Walk.{Reading, Move, walkFrom}
 use Rattle.walk.specs.Sound.{Sound}
 use Rattle.walk.specs.Answers.{answering, pastOf}
 use Rattle.walk.specs.Tally.{isSkipped}
-use Rattle.walk.specs.Pieces.{given, kept}
-use Rattle.walk.specs.Told.{moveOf, noRow, joinedRow, framedRow, holds, toldOf, onTold, nextOf}
-use Rattle.walk.specs.declared.rows.Row.{Row}
+use Rattle.walk.specs.Pieces.{kept}
+use Rattle.walk.specs.Told.{noRow, joinedRow, holds, toldOf, onTold, nextOf}
 use Rattle.walk.specs.declared.rows.Kept.{Kept}
-use Rattle.walk.specs.declared.rows.Told.{Told}
 use Rattle.walk.specs.declared.rows.Told.the-variants.{Nothing, One, Two, Full}
 use Rattle.walk.specs.declared.rows.Next.{Next}
-use Rattle.walk.specs.declared.rows.Next.the-variants.{OneRow, TwoRows, Stopped, NoMore}
-use Rattle.walk.proofs.WalkLaws.{front, step, behind, takes-some, walk-stops, walk-moves, walk-induct}
+use Rattle.walk.specs.declared.rows.Next.the-variants.{Stopped}
+use Rattle.walk.proofs.WalkLaws.{behind}
 use Rattle.walk.proofs.AnswerLaws.{past-stops, some-left, none-left, walk-turn, walk-stop}
-use Rattle.walk.proofs.ToldLaws.{runOf, toldRows, keptBy, told-gives}
 
 -- what is kept stands behind the move
 pub kept-behind : (k : Kept) (a : Answer) (n : ℕ) (j : Kept) → toldOf k a n ≡ Nothing j → j .at ≡ k .at + n

@@ -1,10 +1,9 @@
 -- Rows: given while the line comes in pieces they are the rows of the whole line, and their figures are the walk's.
-use Prim.Native.Nat.{ℕ, zero, suc, _+_, _-_, _≤_}
-use mathlib.Core.Path.{_≡_, refl, sym, ap, ap₂, _∙_}
-use mathlib.Core.Bool.{Bool, true, false, cond, not, _&&_}
+use Prim.Native.Nat.{ℕ, _+_, _-_}
+use mathlib.Core.Path.{_≡_, refl, sym, ap, _∙_}
+use mathlib.Core.Bool.{Bool, true, false, cond, _&&_}
 use mathlib.Core.List.{List, [], _∷_, _++_, append-assoc, append-nil, flatten}
 use native.Mathlib.Omega.{arith}
-use lib.ListN.{length}
 use Rattle.walk.specs.Walk.{Reading, Move, walkFrom, walk, restOf}
 use Rattle.walk.specs.Sound.{Sound}
 use Rattle.walk.specs.Tally.{isSkipped, bytesOf}

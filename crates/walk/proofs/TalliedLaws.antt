@@ -1,7 +1,7 @@
 -- A tally with room is moved on by exactly a walk's figures.
 use Prim.Native.Nat.{ℕ, _+_, _≤_, min}
-use mathlib.Core.Path.{_≡_, refl, sym, ap, _∙_}
-use mathlib.Core.Bool.{Bool, true, false, cond, _&&_}
+use mathlib.Core.Path.{_≡_, ap, _∙_}
+use mathlib.Core.Bool.{Bool, true, false, _&&_}
 use mathlib.Core.List.{List}
 use native.Mathlib.Omega.{arith}
 use lib.ListN.{length}
@@ -12,7 +12,6 @@ use Rattle.walk.specs.Walk.{Reading}
 use Rattle.walk.specs.Sound.{Sound}
 use Rattle.walk.specs.Tally.{largest, hasRoom, movedOn, capped, tallyOf, talliedOf}
 use Rattle.walk.specs.declared.tally.Tally.{Tally}
-use Rattle.walk.specs.declared.tally.Tallied.{Tallied}
 use Rattle.walk.proofs.FigureLaws.{figures-add-up}
 
 module _ {A : Type 0} (R : Reading A) (longest : ℕ) (S : Sound R longest) (t : Tally) (c : Bool) (line : List ℕ) where

@@ -1,16 +1,14 @@
 -- A tally's room and its sums.
-use Prim.Native.Nat.{ℕ, _+_, _-_, _≤_, _<_, min}
-use mathlib.Core.Path.{_≡_, refl, sym, ap, ap₂, _∙_}
-use mathlib.Core.Bool.{Bool, true, false, cond, not, _&&_, _||_}
+use Prim.Native.Nat.{ℕ, _+_, _-_, _≤_, _<_}
+use mathlib.Core.Path.{_≡_, refl, sym, ap, _∙_}
+use mathlib.Core.Bool.{Bool, true, false}
 use native.Mathlib.Omega.{arith}
-use lib.Dec.{eqb, leb}
+use lib.Dec.{leb}
 use borrow.Author.Tests.{eq-eqb, ne-eqb, le-leb, lt-leb, leb-true, leb-false}
 use Rattle.frame.specs.Answers.{answerNumber}
 use Rattle.frame.specs.declared.answer.Answer.{Answer}
-use Rattle.walk.specs.Walk.{isWhole}
-use Rattle.walk.specs.Tally.{isAccepted, isRefused, isSkipped, figuresOnly, largest, hasRoom, movedOn, capped, rowFigures}
+use Rattle.walk.specs.Tally.{figuresOnly, largest, hasRoom, movedOn, capped, rowFigures}
 use Rattle.walk.specs.declared.tally.Tally.{Tally}
-use Rattle.walk.proofs.PastLaws.{whole-accepted, whole-refused, not-whole}
 
 -- ---- room
 leb-minus : (x n : ℕ) → n ≤ largest → leb x (largest - n) ≡ leb (x + n) largest

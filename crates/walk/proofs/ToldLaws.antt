@@ -5,16 +5,15 @@ use mathlib.Core.Bool.{Bool, true, false, cond, not, _&&_}
 use mathlib.Core.List.{List, [], _∷_, _++_}
 use native.Mathlib.Omega.{arith}
 use lib.Dec.{eqb, leb}
-use borrow.Author.Tests.{eq-eqb, ne-eqb, eqb-true, eqb-false, le-leb, leb-true}
+use borrow.Author.Tests.{ne-eqb, eqb-true, le-leb, leb-true}
 use Rattle.digits.proofs.Bools.{and-left, and-right, and-both, no-false}
-use Rattle.frame.specs.Answers.{answerNumber, answerLength}
+use Rattle.frame.specs.Answers.{answerNumber}
 use Rattle.frame.specs.declared.answer.Answer.{Answer}
 use Rattle.walk.specs.Walk.{Reading, Move, isWhole}
 use Rattle.walk.specs.Answers.{answering}
 use Rattle.walk.specs.Tally.{isSkipped, largest}
-use Rattle.walk.specs.Rows.{skips, longer}
 use Rattle.walk.specs.Pieces.{grown, given, kept}
-use Rattle.walk.specs.Told.{moveOf, noRow, joinedRow, framedRow, holds, toldOf}
+use Rattle.walk.specs.Told.{moveOf, noRow, joinedRow, holds, toldOf}
 use Rattle.walk.specs.declared.rows.Row.{Row}
 use Rattle.walk.specs.declared.rows.Kept.{Kept}
 use Rattle.walk.specs.declared.rows.Told.{Told}

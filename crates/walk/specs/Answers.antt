@@ -1,11 +1,11 @@
 -- The walk over readings that say an answer.
 use Prim.Native.Nat.{ℕ}
-use mathlib.Core.Bool.{Bool, true, false, cond}
+use mathlib.Core.Bool.{Bool, cond}
 use mathlib.Core.List.{List}
 use lib.Dec.{eqb}
 use Rattle.frame.specs.Answers.{answerNumber, answerLength}
 use Rattle.frame.specs.declared.answer.Answer.{Answer}
-use Rattle.walk.specs.Walk.{Reading, isWhole, taken}
+use Rattle.walk.specs.Walk.{Reading, isWhole}
 
 -- a reading that says answers
 abbrev pub answering : (List ℕ → Answer) → Reading Answer

@@ -1,6 +1,6 @@
 -- The rows of a listing: adjacent skipped bytes make one row, with the first one's reason.
 use Prim.Native.Nat.{ℕ, _+_}
-use mathlib.Core.Bool.{Bool, true, false, cond, _&&_}
+use mathlib.Core.Bool.{Bool, cond, _&&_}
 use mathlib.Core.List.{List, [], _∷_}
 use Rattle.walk.specs.Walk.{Reading, Move}
 use Rattle.walk.specs.Tally.{isSkipped}

@@ -1,6 +1,6 @@
 -- Rows of answers while a line comes in pieces: what one move more gives.
 use Prim.Native.Nat.{ℕ, _+_}
-use mathlib.Core.Bool.{Bool, true, false, cond, not, _&&_}
+use mathlib.Core.Bool.{Bool, cond, _&&_}
 use mathlib.Core.List.{List, [], _∷_}
 use lib.Dec.{eqb, leb}
 use Rattle.frame.specs.Answers.{answerNumber}

@@ -1,5 +1,5 @@
 -- `trivsome_read_halt_numbers` meets its contract: a refusal or another format leaves what was lent.
-use mathlib.Core.Path.{_≡_, sym, ap, _∙_}
+use mathlib.Core.Path.{sym, ap, _∙_}
 use borrow.Author.Tests.{not-true, not-false}
 use lib.ListN.{drop}
 use Rattle.halts.specs.declared.HaltReading.{HaltReading}

@@ -1,5 +1,5 @@
 -- `trivsome_write_halt_numbers` meets its contract: numbers of no event are 14.
-use mathlib.Core.Path.{_≡_, sym, ap, _∙_}
+use mathlib.Core.Path.{sym, ap, _∙_}
 use mathlib.Core.Bool.{Bool, _&&_}
 use borrow.Author.Tests.{not-true, not-false}
 use Rattle.frame.specs.Codec.{legal, frameOf}

@@ -1,5 +1,5 @@
 -- `trivsome_write_prices_numbers` meets its contract.
-use mathlib.Core.Path.{_≡_, ap, _∙_}
+use mathlib.Core.Path.{ap, _∙_}
 use mathlib.Core.List.{List}
 use Rattle.prices.specs.Prices.{twelveCodec}
 use Rattle.prices.specs.declared.Slot.{Slot}

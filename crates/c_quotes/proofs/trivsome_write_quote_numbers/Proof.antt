@@ -1,5 +1,5 @@
 -- `trivsome_write_quote_numbers` meets its contract.
-use mathlib.Core.Path.{_≡_, ap, _∙_}
+use mathlib.Core.Path.{ap, _∙_}
 use Rattle.quotes.specs.Quotes.{sixCodec}
 use Rattle.outcomes.specs.Outcomes.{writeOutcome}
 use Rattle.outcomes.proofs.WriteLaws.{same-answer, same-bytes}

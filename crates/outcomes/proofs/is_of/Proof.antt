@@ -1,6 +1,5 @@
 -- `is_of` meets its contract, case by case.
 use mathlib.Core.Path.{sym, ap}
-use Rattle.frame.specs.declared.answer.Answer.{Answer}
 use Rattle.outcomes.specs.Lent.{isOf}
 use borrow.Author.Needs.{needs}
 use Rattle.outcomes.proofs.is_of.Statement.{statement}

@@ -1,5 +1,5 @@
 -- `empty` meets its contract.
-use mathlib.Core.Path.{_≡_, ap}
+use mathlib.Core.Path.{ap}
 use mathlib.Core.List.{List}
 use Rattle.prices.specs.declared.Slot.{Slot}
 use borrow.Author.Needs.{needs}

@@ -1,6 +1,6 @@
 -- `text::put_all` meets its contract: up to each turn the text's first bytes are put.
 use Prim.Native.Nat.{_-_}
-use mathlib.Core.Path.{_≡_, sym, ap, _∙_}
+use mathlib.Core.Path.{ap, _∙_}
 use lib.ListN.{length, take}
 use lib.Seq.{length-sets}
 use borrow.Author.Needs.{needs}

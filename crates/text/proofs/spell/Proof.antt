@@ -1,11 +1,8 @@
 -- `text::spell` meets its contract: what is still to spell stands before what is spelt.
 use Prim.Native.Nat.{_+_, _-_, _%_}
-use mathlib.Core.Path.{_≡_, refl, sym, ap, _∙_}
-use mathlib.Core.List.{append-nil}
 use native.Mathlib.Omega.{arith}
-use lib.ListN.{length, length-set}
+use lib.ListN.{length-set}
 use borrow.Author.Needs.{needs}
-use Rattle.text.specs.Text.{decimal}
 use Rattle.text.proofs.TextLaws.{Spelt, spelt-begins, spelt-ends, spelt-goes-on}
 use Rattle.text.proofs.spell.Statement.{statement}
 use Rattle.text.proofs.spell.Tie as tie

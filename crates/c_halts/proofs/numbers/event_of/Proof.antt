@@ -1,5 +1,4 @@
 -- `numbers::event_of` meets its contract.
-use mathlib.Core.Path.{_≡_, ap, _∙_}
 use borrow.Author.Tests.{eq-eqb, ne-eqb}
 use borrow.Author.Needs.{needs}
 use Rattle.c_halts.proofs.numbers.event_of.Statement.{statement}

@@ -1,8 +1,6 @@
 -- `slots::slot_times` meets its contract.
-use Prim.Native.Nat.{ℕ}
-use mathlib.Core.Path.{_≡_, ap}
-use mathlib.Core.List.{List, map}
-use lib.ListN.{length}
+use mathlib.Core.Path.{ap}
+use mathlib.Core.List.{map}
 use Rattle.prices.specs.declared.Slot.{Slot}
 use Rattle.prices.proofs.Shapes.{someSlot, codes-long}
 use Rattle.outcomes.proofs.ListLaws.{listed-all}

@@ -1,7 +1,6 @@
 -- `numbers::quote_amounts` meets its contract.
-use Prim.Native.Nat.{ℕ}
 use mathlib.Core.Path.{_≡_, ap₂}
-use mathlib.Core.List.{List, [], _∷_, _++_}
+use mathlib.Core.List.{List, _∷_, _++_}
 use lib.ListN.{length}
 use Rattle.digits.specs.declared.amounts.Pair.{Pair}
 use Rattle.quotes.specs.Quotes.{noPair, flat}

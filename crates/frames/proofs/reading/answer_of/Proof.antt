@@ -1,8 +1,7 @@
 -- `reading::answer_of` meets its contract: the header's six digits choose the format.
 use Prim.Native.Nat.{ℕ, _<_}
-use mathlib.Core.Path.{_≡_, refl, sym, ap, _∙_}
+use mathlib.Core.Path.{refl, sym, ap, _∙_}
 use lib.Dec.{lit<}
-use Rattle.frame.specs.Format.{bodyAnswer}
 use Rattle.notices.specs.Notices.{five, noticeReading}
 use Rattle.notices.specs.declared.NoticeReading.{NoticeReading}
 use Rattle.quotes.specs.Quotes.{six, quoteReading}

@@ -1,7 +1,6 @@
 -- `reading::find` meets its contract.
-use mathlib.Core.Path.{_≡_, sym, _∙_}
+use mathlib.Core.Path.{sym, _∙_}
 use native.Mathlib.Omega.{arith}
-use lib.ListN.{drop}
 use Rattle.frames.proofs.ReadingLaws.{found-bounds, found-whole}
 use borrow.Author.Needs.{needs}
 use Rattle.frames.proofs.reading.find.Statement.{statement}

@@ -1,5 +1,5 @@
 -- `reading::find_kind` meets its contract.
-use mathlib.Core.Path.{_≡_, ap, subst, _∙_}
+use mathlib.Core.Path.{ap, subst, _∙_}
 use lib.ListN.{drop}
 use borrow.Author.Tests.{ne-eqb}
 use Rattle.frames.specs.declared.reading.Found.{Found}

@@ -1,5 +1,5 @@
 -- `reading::read` meets its contract.
-use mathlib.Core.Path.{_≡_, sym, subst, _∙_}
+use mathlib.Core.Path.{subst, _∙_}
 use lib.ListN.{drop}
 use Rattle.frames.specs.declared.reading.Found.{Found}
 use Rattle.frames.specs.Steps.{WholeAt, foundSays}

@@ -1,6 +1,5 @@
 -- `pieces::heard` is safe and ends: the turns are counted down.
 use Prim.Native.Nat.{_≤_}
-use mathlib.Core.Path.{_≡_}
 use borrow.Author.Needs.{needs}
 use Rattle.gaps.proofs.pieces.heard.Statement.{statement}
 use Rattle.gaps.proofs.pieces.heard.Tie as tie

@@ -1,5 +1,5 @@
 -- `pieces::with_piece` is safe: it hears a part of the buffer.
-use mathlib.Core.Path.{_≡_, sym}
+use mathlib.Core.Path.{sym}
 use lib.Seq.{length-take-le}
 use borrow.Author.Needs.{needs}
 use Rattle.gaps.proofs.pieces.with_piece.Statement.{statement}

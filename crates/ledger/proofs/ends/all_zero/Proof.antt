@@ -1,7 +1,7 @@
 -- `ends::all_zero` meets its contract. The loop's invariant: the ends counted so far that are not 0 and those left are all.
 use Prim.Native.Nat.{_+_, _-_, _≤_}
 use native.Mathlib.Omega.{arith}
-use mathlib.Core.Path.{_≡_, refl, ap}
+use mathlib.Core.Path.{_≡_, ap}
 use lib.Dec.{eqb}
 use lib.ListN.{length, drop}
 use Rattle.ledger.specs.Ends.{endsFrom}

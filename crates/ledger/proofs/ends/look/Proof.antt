@@ -1,7 +1,6 @@
 -- `ends::look` meets its contract: of the ends that are used is seen what is seen of all.
-use Prim.Native.Nat.{_≤_}
 use native.Mathlib.Omega.{arith}
-use mathlib.Core.Path.{_≡_, sym, _∙_}
+use mathlib.Core.Path.{sym, _∙_}
 use lib.Seq.{length-take-le}
 use Rattle.ledger.proofs.UsedLaws.{seen-take}
 use borrow.Author.Needs.{needs}

@@ -1,7 +1,7 @@
 -- `ends::reach` meets its contract: behind an end that is 0 all are.
 use Prim.Native.Nat.{_+_}
 use native.Mathlib.Omega.{arith}
-use mathlib.Core.Path.{_≡_, refl, sym}
+use mathlib.Core.Path.{sym}
 use lib.ListN.{drop-of-length-le}
 use Rattle.ledger.specs.Calls.{mostNumber}
 use Rattle.ledger.proofs.UsedLaws.{zeros-stay}

@@ -1,6 +1,5 @@
 -- `figures::walked` meets its contract.
-use mathlib.Core.Path.{_≡_, sym, _∙_}
-use mathlib.Core.Bool.{true, false}
+use mathlib.Core.Path.{sym, _∙_}
 use Rattle.walk.proofs.TalliedLaws.{tallied-moves, tallied-stays}
 use Rattle.lines.specs.Lines.{answers, longest}
 use Rattle.lines.proofs.LineLaws.{sound-answers}

@@ -1,11 +1,9 @@
 -- `pieces::next_rows` meets its contract: what is still to give stays the same from turn to turn.
-use Prim.Native.Nat.{ℕ, _+_, _-_, _≤_, _<_}
-use mathlib.Core.Path.{_≡_, refl, sym, ap, _∙_}
+use Prim.Native.Nat.{_-_}
+use mathlib.Core.Path.{_≡_, refl, _∙_}
 use native.Mathlib.Omega.{arith}
 use borrow.Author.Needs.{needs}
 use lib.ListN.{length}
-use Rattle.walk.specs.declared.rows.Told.{Told}
-use Rattle.walk.specs.declared.rows.Told.the-variants.{Nothing, One, Two, Full}
 use Rattle.lines.proofs.TurnLaws.{Met, toGive, met-within, met-stops, gives-no-more, goes-on, gives-one, gives-two, gives-full}
 use Rattle.lines.proofs.pieces.next_rows.Statement.{statement}
 use Rattle.lines.proofs.pieces.next_rows.Tie as tie

@@ -1,5 +1,5 @@
 -- `output::written` is safe: it writes a part of the buffer.
-use mathlib.Core.Path.{_≡_, sym}
+use mathlib.Core.Path.{sym}
 use lib.Seq.{length-take-le}
 use borrow.Author.Needs.{needs}
 use Rattle.listing.proofs.output.written.Statement.{statement}

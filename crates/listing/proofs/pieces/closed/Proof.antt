@@ -1,5 +1,5 @@
 -- `pieces::closed` is safe: it lists a part of the buffer.
-use mathlib.Core.Path.{_≡_, sym}
+use mathlib.Core.Path.{sym}
 use lib.Seq.{length-take-le}
 use borrow.Author.Needs.{needs}
 use Rattle.listing.proofs.pieces.closed.Statement.{statement}

@@ -1,6 +1,5 @@
 -- `rows::put_frame` meets its contract.
-use mathlib.Core.Path.{_≡_, sym, subst}
-use mathlib.Core.List.{List, [], _∷_, _++_}
+use mathlib.Core.Path.{sym, subst}
 use borrow.Author.Needs.{needs}
 use Rattle.text.specs.Text.{Puts, decimal, field}
 use Rattle.text.proofs.TextLaws.{puts-then}

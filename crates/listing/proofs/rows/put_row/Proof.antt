@@ -1,9 +1,9 @@
 -- `rows::put_row` meets its contract.
 use Prim.Native.Nat.{ℕ}
-use mathlib.Core.Path.{_≡_, sym, subst}
-use mathlib.Core.List.{List, [], _∷_, _++_}
+use mathlib.Core.Path.{subst}
+use mathlib.Core.List.{[], _∷_, _++_}
 use borrow.Author.Needs.{needs}
-use Rattle.text.specs.Text.{Puts, decimal, field}
+use Rattle.text.specs.Text.{Puts, field}
 use Rattle.text.proofs.TextLaws.{puts-then}
 use Rattle.listing.specs.Listing.{comma, newline, frameText}
 use Rattle.listing.proofs.rows.put_row.Statement.{statement}

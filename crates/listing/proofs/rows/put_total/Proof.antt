@@ -1,8 +1,7 @@
 -- `rows::put_total` meets its contract.
-use mathlib.Core.Path.{_≡_, sym, subst}
-use mathlib.Core.List.{List, [], _∷_, _++_}
+use mathlib.Core.List.{_++_}
 use borrow.Author.Needs.{needs}
-use Rattle.text.specs.Text.{Puts, decimal, field}
+use Rattle.text.specs.Text.{field}
 use Rattle.text.proofs.TextLaws.{puts-then}
 use Rattle.listing.specs.Listing.{comma, newline, total}
 use Rattle.listing.proofs.rows.put_total.Statement.{statement}

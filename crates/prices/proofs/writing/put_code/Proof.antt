@@ -1,5 +1,4 @@
 -- `writing::put_code` meets its contract.
-use Prim.Native.Nat.{_+_, _≤_}
 use mathlib.Core.Path.{_≡_, sym, _∙_}
 use native.Mathlib.Omega.{arith}
 use lib.ListN.{length}

@@ -1,8 +1,5 @@
 -- `reading::empty` meets its contract.
 use borrow.Author.Needs.{needs}
-use mathlib.Core.Path.{ap}
-use lib.ListN.{replicate}
-use Rattle.digits.specs.declared.amounts.Pair.{Pair}
 use Rattle.quotes.proofs.reading.empty.Statement.{statement}
 use Rattle.quotes.proofs.reading.empty.Tie as tie
 

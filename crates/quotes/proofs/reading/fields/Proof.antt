@@ -1,17 +1,17 @@
 -- `reading::fields` meets its contract: the rows from the digits on, one after the other.
-use Prim.Native.Nat.{ℕ, _+_, _*_, _≤_}
-use mathlib.Core.Path.{_≡_, refl, sym, ap, _∙_}
-use mathlib.Core.Bool.{Bool, true, false, cond}
+use Prim.Native.Nat.{ℕ, _+_, _≤_}
+use mathlib.Core.Path.{_≡_, sym, ap, _∙_}
+use mathlib.Core.Bool.{true, cond}
 use native.Mathlib.Omega.{arith}
 use borrow.Author.Tests.{not-true, not-false}
 use lib.Dec.{eqb}
-use lib.ListN.{length, getD, take, drop}
+use lib.ListN.{getD, take}
 use lib.Seq.{length-take-le}
 use Rattle.frame.specs.Cells.{goodCells}
 use Rattle.frame.specs.Format.{valuesOf}
 use Rattle.frame.specs.Times.{timeOfDay, nines, zeroCode}
 use Rattle.quotes.specs.Quotes.{sixCells, sixTimed, six, trades}
-use Rattle.quotes.specs.Steps.{Dictated, Parts}
+use Rattle.quotes.specs.Steps.{Parts}
 use Rattle.quotes.proofs.BodyLaws.{digits-fail, time-fails, code-fails, timed-is, accepts}
 use borrow.Author.Needs.{needs}
 use Rattle.quotes.proofs.reading.fields.Statement.{statement}

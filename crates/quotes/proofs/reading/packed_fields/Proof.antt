@@ -1,14 +1,13 @@
 -- `reading::packed_fields` meets its contract: a bad digit ends it, and the parts are what the fields hold.
-use Prim.Native.Nat.{ℕ, _+_, _*_, _≤_}
-use mathlib.Core.Path.{_≡_, refl, sym, ap, ap₂, _∙_}
+use Prim.Native.Nat.{_+_, _*_}
+use mathlib.Core.Path.{_≡_, sym, ap, ap₂, _∙_}
 use mathlib.Core.Bool.{Bool, true, false, _&&_}
-use mathlib.Core.List.{List}
 use native.Mathlib.Omega.{arith}
 use borrow.Author.Tests.{not-true, not-false}
-use lib.ListN.{length, take, drop}
+use lib.ListN.{take, drop}
 use Rattle.digits.specs.Packed.{good, goodField}
 use Rattle.frame.specs.Cells.{goodCells}
-use Rattle.quotes.specs.Quotes.{pairCells, sixCells}
+use Rattle.quotes.specs.Quotes.{pairCells}
 use Rattle.quotes.proofs.ReadLaws.{bad-digits, bad-time, bad-total, bad-trades, sides-say, time-flag, total-good, total-bad, parts}
 use borrow.Author.Needs.{needs}
 use Rattle.quotes.proofs.reading.packed_fields.Statement.{statement}

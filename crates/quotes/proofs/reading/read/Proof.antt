@@ -1,9 +1,5 @@
 -- `reading::read` meets its contract: the rows up to the length that the reveal byte dictates, then the fields.
-use Prim.Native.Nat.{_+_, _*_}
-use mathlib.Core.Path.{_≡_, refl, sym, _∙_}
-use native.Mathlib.Omega.{arith}
-use lib.ListN.{getD}
-use Rattle.quotes.specs.Steps.{Dictated}
+use mathlib.Core.Path.{_∙_}
 use Rattle.quotes.proofs.BodyLaws.{too-short, too-long, bids-over, asks-over, other-length}
 use borrow.Author.Needs.{needs}
 use Rattle.quotes.proofs.reading.read.Statement.{statement}

@@ -1,12 +1,10 @@
 -- `reading::timed` meets its contract.
 use Prim.Native.Nat.{_+_, _*_}
-use mathlib.Core.Path.{_≡_, refl, sym, ap, _∙_}
-use mathlib.Core.Bool.{Bool, true, false, cond}
+use mathlib.Core.Path.{sym, ap, _∙_}
+use mathlib.Core.Bool.{Bool, cond}
 use borrow.Author.Needs.{needs}
 use native.Mathlib.Omega.{arith}
 use lib.Dec.{eqb}
-use lib.ListN.{length, take}
-use lib.Seq.{length-take-le}
 use Rattle.frame.specs.Times.{timeOfDay, nines}
 use Rattle.quotes.proofs.ReadLaws.{not-nines, last-nines, day-time}
 use Rattle.quotes.proofs.reading.timed.Statement.{statement}

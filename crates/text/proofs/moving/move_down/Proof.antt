@@ -1,6 +1,5 @@
 -- `moving::move_down` meets its contract: at each turn so many bytes are moved.
 use Prim.Native.Nat.{_-_, _<_}
-use mathlib.Core.Path.{_≡_}
 use native.Mathlib.Omega.{arith}
 use borrow.Author.Needs.{needs}
 use lib.ListN.{length}

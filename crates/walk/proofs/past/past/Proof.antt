@@ -1,6 +1,6 @@
 -- `past::past` meets its contract.
 use borrow.Author.Needs.{needs}
-use mathlib.Core.Path.{_≡_, sym, ap, _∙_}
+use mathlib.Core.Path.{sym, ap, _∙_}
 use mathlib.Core.Bool.{Bool, cond}
 use Rattle.walk.proofs.PastLaws.{whole-accepted, whole-refused, not-whole, past-two, past-whole, past-one}
 use Rattle.walk.proofs.past.past.Statement.{statement}
