@@ -1,7 +1,6 @@
 // Bytes moved within a lent buffer.
 ghost use mathlib.Core.Path.{_≡_};
 ghost use Prim.Native.Nat.{min};
-ghost use lib.ListN.{length};
 ghost use Rattle.text.specs.Moving.{MovesDown};
 
 fn least(a: usize, b: usize) -> usize
