@@ -178,9 +178,6 @@ module _ (format version seq : ℕ) (b : List ℕ) (hf : format < 100) (hv : ver
         (λ more. good-encode kindCells ks more kinds-fit)
 
 -- ---- a whole outline is a frame around its body
-pub take-drop-cons : (l : List ℕ) (k n : ℕ) → k < length l → take (suc n) (drop k l) ≡ getD l k 0 ∷ take n (drop (suc k) l)
-take-drop-cons l k n h = ap (take (suc n)) (drop-cons l k 0 h)
-
 pub length-bytes-taken : (n : ℕ) (t : List ℕ) → 3 ≤ n → 3 ≤ length t → lengthBytes (take n t) ≡ lengthBytes t
 length-bytes-taken (suc (suc (suc n))) (a ∷ b ∷ c ∷ t) h k = refl
 length-bytes-taken zero t h k = absurd (omega arith)
@@ -196,9 +193,6 @@ module _ (t : List ℕ) (o : Outlined t) where
 
   pub least-length : 14 ≤ lengthOf t
   least-length = leb-true 14 (lengthOf t) (and-left _ _ range)
-
-  pub most-length : lengthOf t ≤ 1024
-  most-length = leb-true (lengthOf t) 1024 (and-right (leb 14 (lengthOf t)) _ range)
 
   pub within-line : lengthOf t ≤ length t
   within-line = leb-true (lengthOf t) (length t) (o .whole)

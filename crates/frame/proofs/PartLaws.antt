@@ -16,7 +16,7 @@ use Rattle.frame.specs.declared.answer.Head.{Head}
 use Rattle.frame.specs.declared.answer.Answer.{Answer}
 use Rattle.frame.specs.declared.answer.Answer.the-variants.{NoFrame}
 use Rattle.frame.specs.declared.answer.Outline.the-variants.{Whole, Not}
-use Rattle.frame.proofs.OutlineLaws.{Outlined, outlined-passes, passes-outlined, length-own, least-length}
+use Rattle.frame.proofs.OutlineLaws.{Outlined, passes-outlined, length-own, least-length}
 use Rattle.frame.proofs.OutlineSteps.{answered, row-none, row-first, row-three, row-length, row-whole, outline-own}
 
 -- ---- what the answer tells
@@ -30,9 +30,6 @@ module _ (t : List ℕ) where
           → Outlined t × (h ≡ headOf (own t))
       go true z q = (passes-outlined t (eqb-true (firstFail (outlineRows t)) 0 z), cc)
       go false z q = let x : _≡_ {A = ℕ} 0 1 = cc in absurd (omega arith)
-
-  pub outlined-whole : Outlined t → outlineOf t ≡ Whole (headOf (own t))
-  outlined-whole o = sym (answered t 0 (outlined-passes t o))
 
   -- any other outline is the answer of the first row that fails
   pub not-outlined : (a : Answer) → outlineOf t ≡ Not a

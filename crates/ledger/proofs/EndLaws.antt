@@ -1,7 +1,7 @@
 -- Falling lists of ends: how many are a number or above it tells where the number stands.
 use Prim.Native.Nat.{ℕ, zero, suc, _+_, _-_, _%_, _≤_, _<_}
 use native.Mathlib.Omega.{arith}
-use mathlib.Core.Path.{_≡_, refl, ap}
+use mathlib.Core.Path.{_≡_, refl}
 use mathlib.Core.Bool.{Bool, true, false, cond, not, _&&_, false≢true}
 use mathlib.Core.List.{List, [], _∷_}
 use lib.ListN.{length, getD}
@@ -114,9 +114,6 @@ pub missing-even : (es : List ℕ) (y : ℕ) → heardAt es y ≡ false → ends
 missing-even es y h =
     let odd : endsFrom y es % 2 ≡ 1 → ⊥ = eqb-false (endsFrom y es % 2) 1 h in
     omega arith
-
-pub same-count : (es fs : List ℕ) (y : ℕ) → endsFrom y es % 2 ≡ endsFrom y fs % 2 → heardAt es y ≡ heardAt fs y
-same-count es fs y e = ap (λ (t : ℕ). eqb t 1) e
 
 -- up to an end in front every number changes sides
 pub heard-under : (e y : ℕ) (es : List ℕ) → y ≤ e → heardAt (e ∷ es) y ≡ not (heardAt es y)

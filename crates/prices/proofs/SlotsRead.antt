@@ -60,9 +60,6 @@ module _ (b : List ℕ) where
   pass-next : (p : ℕ → List ℕ → Bool) (k n at : ℕ) → passFrom p (suc k) n at ≡ (p n (valuesAt at) && passFrom p k (n - 1) (at + 36))
   pass-next p k n = split-next (λ (v w : List ℕ). p n v && slotsPass p k (n - 1) w) k
 
-  slots-none : (at : ℕ) → slotsFrom 0 at ≡ []
-  slots-none at = refl
-
   good-none : (at : ℕ) → goodFrom 0 at ≡ true
   unfolding slotsCells
   good-none at = refl
