@@ -1,5 +1,8 @@
 -- `trivsome_write_notice_numbers` meets its contract.
-use mathlib.Core.Path.{ap, _∙_}
+use mathlib.Core.Path.{_≡_, ap, _∙_}
+use Rattle.frame.specs.Codec.{legal, frameOf}
+use Rattle.frame.specs.Writing.{writeAnswer}
+use Rattle.notices.specs.Notices.{fiveCodec, noticeFrom}
 use Rattle.outcomes.specs.Outcomes.{writeOutcome}
 use borrow.Author.Needs.{needs}
 use Rattle.c_notices.proofs.trivsome_write_notice_numbers.Statement.{statement}
@@ -15,7 +18,12 @@ same-length : tie.Need-same-length
 same-length c = search needs
 
 returns : tie.Need-returns
-returns c = let w = c .before .before .before .write-text .ensures in (c .of-written .ensures ∙ ap writeOutcome (w .0), w .1)
+returns c =
+    let w = c .before .before .before .write-text in
+    let a = c .before .before .before .before .before .before .before .args in
+    let m = noticeFrom (a .seq) (a .category) (a .text .now) in
+    let said : w .result ≡ writeAnswer (legal fiveCodec m) (frameOf fiveCodec m) (a .buf .now) = w .ensures .0 in
+    (c .of-written .ensures ∙ ap writeOutcome said, w .ensures .1)
 
 pub trivsome-write-notice-numbers-spec : {M : Type 1} → statement M
 trivsome-write-notice-numbers-spec =
