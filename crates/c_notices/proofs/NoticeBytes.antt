@@ -10,7 +10,7 @@ use borrow.Author.Tests.{eqb-true}
 use Rattle.digits.proofs.Bools.{no-false}
 use Rattle.frame.specs.Outline.{lengthOf, own, body}
 use Rattle.frame.specs.Format.{valuesOf}
-use Rattle.frame.specs.Writing.{bytesOver}
+use Rattle.frame.specs.Bytes.{bytesOver}
 use Rattle.frame.specs.declared.answer.Answer.{Answer}
 use Rattle.frame.specs.declared.answer.Answer.the-variants.{Accepted, NoFrame, Refused}
 use Rattle.frame.proofs.OutlineLaws.{within-line, length-body}

@@ -3,7 +3,7 @@ ghost use Prim.Native.Nat.{_<_};
 ghost use mathlib.Core.Path.{_≡_};
 ghost use lib.ListN.{replicate};
 ghost use lib.Seq.{sets};
-ghost use Rattle.frame.specs.Writing.{bytesOver};
+ghost use Rattle.frame.specs.Bytes.{bytesOver};
 ghost use Rattle.prices.specs.Prices.{slotCount};
 ghost use Rattle.c_prices.specs.Slots.{codeIn, amountsIn, slotCodes, slotAmounts, slotTimes, slotIn, slotsIn};
 use digits::amounts::Price;

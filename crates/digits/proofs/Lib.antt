@@ -15,4 +15,5 @@ pub mod WriteSteps
 pub mod PutLaws
 pub mod FieldLaws
 pub mod Determined
+pub mod DeterminedAmounts
 pub mod DeterminedFields

@@ -1,8 +1,8 @@
 // Prices and quantities, kept apart by their types.
 ghost use mathlib.Core.Path.{_≡_};
 ghost use Rattle.digits.specs.Amounts.{priceAt, quantityAt, pairAt};
-use super::halves::eight_in;
-use super::halves::four_in;
+use super::halves::eight_at;
+use super::halves::four_at;
 
 // The largest digit.
 const NINE: u8 = 9;
@@ -55,7 +55,7 @@ impl Price {
         if b > NINE {
             return PriceField::Bad;
         }
-        let h = four_in(s, at + 1);
+        let h = four_at(s, at + 1);
         if h.good {
             PriceField::Is(Price((b as u32) * ABOVE_EIGHT + h.last))
         } else {
@@ -78,7 +78,7 @@ impl Quantity {
         if at > s.len() - 4 {
             return QuantityField::Bad;
         }
-        let h = four_in(s, at);
+        let h = four_at(s, at);
         if h.good {
             QuantityField::Is(Quantity(h.last))
         } else {
@@ -102,7 +102,7 @@ impl Pair {
         if b > NINE {
             return PairField::Bad;
         }
-        let h = eight_in(s, at + 1);
+        let h = eight_at(s, at + 1);
         if h.good {
             PairField::Is(Pair {
                 price: Price((b as u32) * ABOVE_EIGHT + h.first),

@@ -9,26 +9,13 @@ use lib.Seq.{sets, sets-eq, length-sets, length-take-le, take-at, drop-drop, tak
 use borrow.Author.Tests.{lt-ltb, le-ltb, le-leb, lt-leb}
 use Rattle.digits.specs.Packed.{packed}
 use Rattle.digits.specs.Fields.{putAt}
-use Rattle.digits.proofs.FieldLaws.{put-fits}
+use Rattle.frame.proofs.PutLaws.{put-behind}
 use Rattle.frame.specs.Cells.{encode}
 use Rattle.digits.specs.Check.{xorOf}
 use Rattle.frame.specs.Outline.{headCells}
 use Rattle.frame.specs.Format.{around}
 use Rattle.frame.specs.Writing.{sealed, headValues, closable, closeAnswer, closedOver}
 use Rattle.frame.specs.declared.answer.Written.the-variants.{Done, Illegal, NoRoom}
-
--- ---- stores behind stores
-pub sets-behind : (vs ws s : List ℕ) (at k : ℕ) → at + length vs ≡ k → sets (sets s at vs) k ws ≡ sets s at (vs ++ ws)
-sets-behind [] ws s at k e = ap (λ (i : ℕ). sets s i ws) (sym e ∙ omega arith)
-sets-behind (v ∷ vs) ws s at k e = sets-behind vs ws (set s at v) (suc at) k (omega arith)
-
--- a field written behind what stands from a place on
-pub put-behind : (v n : ℕ) (vs s t : List ℕ) (at k : ℕ) → t ≡ sets s at vs → at + length vs ≡ k → n ≤ 9 → k + n ≤ length s → v < 100 ^ n
-    → putAt v n t k ≡ sets s at (vs ++ packed n v)
-put-behind v n vs s t at k so e w h l =
-    ap (λ (x : List ℕ). putAt v n x k) so
-    ∙ put-fits v n (sets s at vs) k w (rw length-sets h) l .1
-    ∙ sets-behind vs (packed n v) s at k e
 
 -- the header's fields, one behind another
 module _ (n format version seq : ℕ) (s s₁ s₂ s₃ s₄ s₅ : List ℕ) (room : 10 ≤ length s)

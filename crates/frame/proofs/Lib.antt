@@ -11,6 +11,10 @@ pub mod LengthSteps
 pub mod OutlineSteps
 pub mod PartLaws
 pub mod Determined
+pub mod DeterminedAnswers
+pub mod DeterminedRules
+pub mod DeterminedBytes
+pub mod MessageLaws
 pub mod RuleLaws
 pub mod RawLaws
 pub mod BodyRowLaws

@@ -19,7 +19,7 @@ use Rattle.frame.specs.Answers.{named}
 use Rattle.digits.specs.Check.{xorOf}
 use Rattle.frame.specs.Outline.{lengthBytes, lengthOf, own, inner, kindCells, checkByte, ended, lengthRight, outlineRows, headOf, outlineOf}
 use Rattle.frame.specs.declared.answer.Answer.the-variants.{NoFrame, Refused}
-use Rattle.frame.specs.declared.answer.Outline.the-variants.{Whole, Not}
+use Rattle.frame.specs.declared.head.Outline.the-variants.{Whole, Not}
 use Rattle.frame.proofs.OutlineLaws.{length-bytes-taken}
 use Rattle.frame.proofs.WholeLaws.{good-wholes}
 use Rattle.frame.proofs.LengthSteps.{lengthIn}

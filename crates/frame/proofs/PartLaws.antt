@@ -12,10 +12,10 @@ use Rattle.digits.specs.Packed.{goodField, value}
 use Rattle.frame.specs.Rows.{firstFail}
 use Rattle.frame.specs.Answers.{named}
 use Rattle.frame.specs.Outline.{lengthBytes, lengthOf, own, body, lengthRight, outlineRows, headOf, outlineOf}
-use Rattle.frame.specs.declared.answer.Head.{Head}
+use Rattle.frame.specs.declared.head.Head.{Head}
 use Rattle.frame.specs.declared.answer.Answer.{Answer}
 use Rattle.frame.specs.declared.answer.Answer.the-variants.{NoFrame}
-use Rattle.frame.specs.declared.answer.Outline.the-variants.{Whole, Not}
+use Rattle.frame.specs.declared.head.Outline.the-variants.{Whole, Not}
 use Rattle.frame.proofs.OutlineLaws.{Outlined, passes-outlined, length-own, least-length}
 use Rattle.frame.proofs.OutlineSteps.{answered, row-none, row-first, row-three, row-length, row-whole, outline-own}
 

@@ -1,5 +1,6 @@
 pub mod Cells
 pub mod Rows
+pub mod Bytes
 pub mod Answers
 pub mod Outline
 pub mod Format

@@ -9,9 +9,9 @@ use Rattle.digits.specs.Packed.{goodField, value}
 use Rattle.frame.specs.Cells.{Cell, digits, goodCells, decode}
 use Rattle.frame.specs.Rows.{Row, must, firstFail}
 use Rattle.frame.specs.Answers.{named}
-use Rattle.frame.specs.declared.answer.Head.{Head}
-use Rattle.frame.specs.declared.answer.Outline.{Outline}
-use Rattle.frame.specs.declared.answer.Outline.the-variants.{Whole, Not}
+use Rattle.frame.specs.declared.head.Head.{Head}
+use Rattle.frame.specs.declared.head.Outline.{Outline}
+use Rattle.frame.specs.declared.head.Outline.the-variants.{Whole, Not}
 
 -- bytes 2-3, the whole length: 9(4)
 abbrev pub lengthBytes : List ℕ → List ℕ

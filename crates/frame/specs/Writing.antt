@@ -3,7 +3,6 @@ use Prim.Native.Nat.{ℕ, _+_, _-_, _^_}
 use mathlib.Core.Bool.{Bool, cond, _&&_}
 use mathlib.Core.List.{List, [], _∷_, _++_}
 use lib.ListN.{length, take, drop}
-use lib.Seq.{sets}
 use lib.Dec.{leb, ltb}
 use Rattle.frame.specs.Cells.{Cell, encode}
 use Rattle.digits.specs.Check.{xorOf}
@@ -27,10 +26,6 @@ frameAround format version seq b = sealed (encode headCells (headValues (around 
 -- a frame of a format with a layout and its numbers
 abbrev pub frameBytes : Format → ℕ → List Cell → List ℕ → List ℕ
 frameBytes F seq cs vs = frameAround (F .number) (F .version) seq (encode cs vs)
-
--- bytes at a place in a buffer, if they fit
-abbrev pub bytesOver : List ℕ → List ℕ → ℕ → List ℕ
-bytesOver s buf at = cond (leb (at + length s) (length buf)) (sets buf at s) buf
 
 -- what writing a frame into a buffer answers, and the buffer afterwards: 14 before 15, and a refusal leaves it
 abbrev pub writeAnswer : Bool → List ℕ → List ℕ → Written

@@ -45,18 +45,6 @@ impl Answer {
     }
 }
 
-// The header of a frame whose outline is whole: business, format and version as six digits.
-pub struct Head {
-    pub kind: u32,
-    pub seq: u32,
-    pub length: usize,
-}
-
-pub enum Outline {
-    Whole(Head),
-    Not(Answer),
-}
-
 // What a writing says.
 pub enum Written {
     // 0, with the frame's length

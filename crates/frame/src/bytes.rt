@@ -1,6 +1,6 @@
 // Bytes put into a lent buffer as they are.
 ghost use mathlib.Core.Path.{_≡_};
-ghost use Rattle.frame.specs.Writing.{bytesOver};
+ghost use Rattle.frame.specs.Bytes.{bytesOver};
 
 // Puts bytes into the buffer from a place on; where they do not fit, the buffer stays as it is.
 pub fn put_bytes(s: &[u8], buf: &mut [u8], at: usize)

@@ -3,5 +3,6 @@
 pub mod answer;
 pub mod bytes;
 pub mod closing;
+pub mod head;
 pub mod outline;
 pub mod rules;

@@ -6,8 +6,8 @@ ghost use mathlib.Core.List.{[], _∷_};
 ghost use lib.ListN.{length, getD, drop};
 ghost use Rattle.frame.specs.Outline.{lengthOf, lengthRight, outlineOf};
 use crate::answer::Answer;
-use crate::answer::Head;
-use crate::answer::Outline;
+use crate::head::Head;
+use crate::head::Outline;
 use digits::check::xor_of;
 use digits::halves::eight_at;
 

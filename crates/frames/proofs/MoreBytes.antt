@@ -12,9 +12,9 @@ use Rattle.frame.specs.Outline.{lengthOf, own, body, business, format, version,
 use Rattle.frame.specs.Format.{valuesOf}
 use Rattle.frame.specs.Codec.{Codec}
 use Rattle.frame.specs.declared.answer.Answer.the-variants.{NoFrame}
-use Rattle.frame.specs.declared.answer.Head.{Head}
-use Rattle.frame.specs.declared.answer.Outline.{Outline}
-use Rattle.frame.specs.declared.answer.Outline.the-variants.{Whole, Not}
+use Rattle.frame.specs.declared.head.Head.{Head}
+use Rattle.frame.specs.declared.head.Outline.{Outline}
+use Rattle.frame.specs.declared.head.Outline.the-variants.{Whole, Not}
 use Rattle.frame.proofs.OutlineLaws.{length-own, within-line}
 use Rattle.frame.proofs.PartLaws.{whole-outlined, outline-more}
 use Rattle.frames.specs.Reading.{rows, answerOf, messageBy}

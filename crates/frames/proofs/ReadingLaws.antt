@@ -17,9 +17,9 @@ use Rattle.frame.specs.Codec.{Codec}
 use Rattle.frame.specs.declared.answer.Frame.{Frame}
 use Rattle.frame.specs.declared.answer.Answer.{Answer}
 use Rattle.frame.specs.declared.answer.Answer.the-variants.{Refused}
-use Rattle.frame.specs.declared.answer.Head.{Head}
-use Rattle.frame.specs.declared.answer.Outline.{Outline}
-use Rattle.frame.specs.declared.answer.Outline.the-variants.{Whole, Not}
+use Rattle.frame.specs.declared.head.Head.{Head}
+use Rattle.frame.specs.declared.head.Outline.{Outline}
+use Rattle.frame.specs.declared.head.Outline.the-variants.{Whole, Not}
 use Rattle.frame.proofs.CellLaws.{fits-decode}
 use Rattle.frame.proofs.RowLaws.{firstFail-append, row-holds, rows-after}
 use Rattle.frame.proofs.OutlineLaws.{Outlined, outlined-passes, length-own, least-length, within-line, length-body}

@@ -11,7 +11,7 @@ use Rattle.frame.specs.Format.{Format, bodyRows, around}
 use Rattle.frame.specs.declared.answer.Answer.{Answer}
 use Rattle.frame.specs.declared.answer.Answer.the-variants.{Refused}
 use Rattle.frame.specs.Outline.{own, body, outlineOf}
-use Rattle.frame.specs.declared.answer.Outline.{Outline}
+use Rattle.frame.specs.declared.head.Outline.{Outline}
 use Rattle.frames.specs.declared.reading.Whole.{Whole}
 use Rattle.frames.specs.declared.reading.Found.{Found}
 use Rattle.frames.specs.declared.reading.Found.the-variants.{At, None}

@@ -5,7 +5,7 @@ ghost use lib.ListN.{length, drop};
 ghost use Rattle.frames.specs.Reading.{answerOf, noticeAt, quoteAt, pricesAt, haltAt};
 ghost use Rattle.frames.specs.Steps.{afterOutline, kindRefused, foundSays, kindSays};
 use frame::answer::Answer;
-use frame::answer::Outline;
+use frame::head::Outline;
 use frame::outline::outline;
 use halts::HaltReading;
 use notices::NoticeReading;

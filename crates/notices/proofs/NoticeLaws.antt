@@ -14,7 +14,7 @@ use Rattle.frame.specs.Outline.{own}
 use Rattle.frame.specs.Format.{valuesOf, ranged}
 use Rattle.frame.specs.Times.{every}
 use Rattle.frame.specs.Codec.{legal, frameOf}
-use Rattle.frame.specs.Writing.{bytesOver}
+use Rattle.frame.specs.Bytes.{bytesOver}
 use Rattle.frame.proofs.PutLaws.{bytes-in}
 use Rattle.frame.proofs.CellLaws.{length-encode, length-decode}
 use Rattle.frame.proofs.FormatLaws.{Bodied}

@@ -15,7 +15,7 @@ use Rattle.digits.proofs.PackedLaws.{two-lt}
 use Rattle.frame.specs.Cells.{raw, size, goodCells, decode}
 use Rattle.frame.specs.Rows.{firstFail}
 use Rattle.frame.specs.Format.{valuesOf, bodyRows, bodyAnswer}
-use Rattle.frame.specs.Writing.{bytesOver}
+use Rattle.frame.specs.Bytes.{bytesOver}
 use Rattle.frame.proofs.RowLaws.{pass}
 use Rattle.frame.specs.declared.answer.Answer.{Answer}
 use Rattle.notices.specs.Notices.{five, fiveRuled, room, noticeOf, noNotice, noticeReading}

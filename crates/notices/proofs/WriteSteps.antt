@@ -15,13 +15,15 @@ use Rattle.frame.specs.Cells.{size, encode}
 use Rattle.frame.specs.Format.{around}
 use Rattle.frame.specs.Times.{every}
 use Rattle.frame.specs.Codec.{legal, frameOf}
-use Rattle.frame.specs.Writing.{bytesOver, writeAnswer, writtenOver, closeAnswer, closedOver}
+use Rattle.frame.specs.Writing.{writeAnswer, writtenOver, closeAnswer, closedOver}
+use Rattle.frame.specs.Bytes.{bytesOver}
 use Rattle.frame.specs.declared.answer.Written.{Written}
 use Rattle.frame.proofs.CodecLaws.{legal-seq, legal-ruled, legal-tidy}
 use Rattle.notices.specs.Notices.{fiveCells, fiveRuled, room, noticeFrom, noticeValues, tidyNotice, fiveCodec, ShapedNotice}
 use Rattle.notices.specs.declared.Notice.{Notice}
 use Rattle.notices.proofs.RawLaws.{fits-raws, encode-raws}
-use Rattle.frame.proofs.PutLaws.{bytes-in, message-short, message-closed}
+use Rattle.frame.proofs.PutLaws.{bytes-in}
+use Rattle.frame.proofs.MessageLaws.{message-short, message-closed}
 use Rattle.notices.proofs.NoticeLaws.{size-five, legal-text, notices-lawful, text-put, length-filled, text-back, rest-tidy}
 
 -- ---- zeros from a place on

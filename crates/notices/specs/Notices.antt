@@ -10,7 +10,7 @@ use Rattle.frame.specs.Rows.{firstFail}
 use Rattle.frame.specs.Format.{Format, valuesOf, bodyRows, bodyAnswer}
 use Rattle.frame.specs.Times.{every}
 use Rattle.frame.specs.Codec.{Codec}
-use Rattle.frame.specs.Writing.{bytesOver}
+use Rattle.frame.specs.Bytes.{bytesOver}
 use Rattle.notices.specs.declared.Notice.{Notice}
 use Rattle.notices.specs.declared.NoticeReading.{NoticeReading}
 

@@ -7,7 +7,7 @@ use native.Mathlib.Omega.{arith}
 use lib.ListN.{length, getD, take, drop}
 use lib.Seq.{sets, drop-cons, take-all}
 use borrow.Author.Tests.{le-leb}
-use Rattle.frame.specs.Writing.{bytesOver}
+use Rattle.frame.specs.Bytes.{bytesOver}
 
 module _ {A : Type 0} where
   -- k entries from a place on, one by one

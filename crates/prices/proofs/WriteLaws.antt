@@ -21,7 +21,7 @@ use Rattle.frame.specs.Writing.{writeAnswer, writtenOver, closeAnswer, closedOv
 use Rattle.frame.specs.declared.answer.Written.{Written}
 use Rattle.frame.specs.declared.answer.Written.the-variants.{NoRoom}
 use Rattle.frame.proofs.CellLaws.{length-encode}
-use Rattle.frame.proofs.CloseLaws.{sets-behind}
+use Rattle.frame.proofs.PutLaws.{sets-behind}
 use Rattle.frame.proofs.CodecLaws.{legal-fits}
 use Rattle.prices.specs.declared.Slot.{Slot}
 use Rattle.prices.specs.declared.Prices.{Prices}
@@ -29,7 +29,7 @@ use Rattle.prices.specs.Prices.{slotCells, slotsCells, slotValues, slots
 use Rattle.frame.proofs.AppendLaws.{fits-append, encode-append}
 use Rattle.frame.proofs.RawLaws.{fits-raws, encode-raws}
 use Rattle.prices.proofs.PriceLaws.{length-slotValues, size-slotsCells, prices-lawful}
-use Rattle.frame.proofs.PutLaws.{message-short, message-closed}
+use Rattle.frame.proofs.MessageLaws.{message-short, message-closed}
 use Rattle.prices.proofs.RuleLaws.{codes-at}
 use Rattle.prices.proofs.SlotReads.{amountCells}
 

@@ -15,10 +15,12 @@ use Rattle.digits.proofs.PackedLaws.{length-packed}
 use Rattle.frame.specs.Cells.{Cell, raw, digits, size, fits, encode}
 use Rattle.frame.specs.Format.{around}
 use Rattle.frame.specs.Codec.{legal, frameOf}
-use Rattle.frame.specs.Writing.{bytesOver, writeAnswer, writtenOver, closeAnswer, closedOver}
+use Rattle.frame.specs.Writing.{writeAnswer, writtenOver, closeAnswer, closedOver}
+use Rattle.frame.specs.Bytes.{bytesOver}
 use Rattle.frame.specs.declared.answer.Written.{Written}
 use Rattle.frame.specs.declared.answer.Written.the-variants.{NoRoom}
-use Rattle.frame.proofs.PutLaws.{put-next, put-digits, bytes-in, message-short, message-closed}
+use Rattle.frame.proofs.PutLaws.{put-next, put-digits, bytes-in}
+use Rattle.frame.proofs.MessageLaws.{message-short, message-closed}
 use Rattle.frame.proofs.RawLaws.{encode-raws}
 use Rattle.quotes.specs.declared.quote.Quote.{Quote}
 use Rattle.quotes.specs.Quotes.{trades, bidLevels, askLevels, pairCount, pairCells, sixCells, flat, usedPairs, quoteValues, zeroPairs, sixCodec, ShapedQuote}

@@ -4,7 +4,7 @@ use borrow.Author.Tests.{not-true, not-false}
 use lib.ListN.{length}
 use Rattle.frame.specs.Codec.{legal, frameOf}
 use Rattle.halts.specs.Halts.{nineteenCodec, ShapedHalt}
-use Rattle.frame.proofs.PutLaws.{write-illegal, message-short, message-closed}
+use Rattle.frame.proofs.MessageLaws.{write-illegal, message-short, message-closed}
 use Rattle.halts.proofs.HaltLaws.{halts-lawful}
 use borrow.Author.Needs.{needs}
 use Rattle.halts.proofs.write.Statement.{statement}

@@ -7,7 +7,7 @@ use lib.ListN.{length}
 use lib.Seq.{length-take-le}
 use Rattle.frame.specs.Codec.{legal, frameOf}
 use Rattle.frame.specs.Writing.{writeAnswer, writtenOver}
-use Rattle.frame.proofs.PutLaws.{write-illegal}
+use Rattle.frame.proofs.MessageLaws.{write-illegal}
 use Rattle.notices.specs.Notices.{fiveCodec, room, tidyNotice}
 use Rattle.notices.specs.declared.Notice.{Notice}
 use Rattle.notices.proofs.NoticeLaws.{from-parts}

@@ -6,7 +6,7 @@ use native.Mathlib.Omega.{arith}
 use borrow.Author.Tests.{not-true, not-false}
 use lib.ListN.{length-set}
 use Rattle.frame.specs.Codec.{legal, frameOf}
-use Rattle.frame.proofs.PutLaws.{write-illegal}
+use Rattle.frame.proofs.MessageLaws.{write-illegal}
 use Rattle.notices.specs.Notices.{fiveCodec, fiveRuled, noticeFrom}
 use Rattle.notices.proofs.WriteSteps.{illegal-seq, illegal-long, illegal-category, known-small, notice-written, notice-room}
 use borrow.Author.Needs.{needs}

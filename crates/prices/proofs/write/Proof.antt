@@ -8,7 +8,7 @@ use Rattle.digits.proofs.FieldLaws.{length-putAt}
 use Rattle.frame.specs.Codec.{legal, frameOf}
 use Rattle.prices.specs.Prices.{twelveCodec, ShapedPrices}
 use Rattle.prices.proofs.Shapes.{shaped}
-use Rattle.frame.proofs.PutLaws.{write-illegal}
+use Rattle.frame.proofs.MessageLaws.{write-illegal}
 use Rattle.prices.proofs.WriteLaws.{slots-fit, prices-short, prices-closed}
 use borrow.Author.Needs.{needs}
 use Rattle.prices.proofs.write.Statement.{statement}

@@ -4,7 +4,7 @@ use native.Mathlib.Omega.{arith}
 use borrow.Author.Tests.{not-true, not-false}
 use lib.ListN.{length}
 use Rattle.frame.specs.Codec.{legal, frameOf}
-use Rattle.frame.proofs.PutLaws.{write-illegal}
+use Rattle.frame.proofs.MessageLaws.{write-illegal}
 use Rattle.quotes.specs.Quotes.{sixCodec, ShapedQuote}
 use Rattle.quotes.proofs.LegalLaws.{length-mapped}
 use Rattle.quotes.proofs.WriteLaws.{quote-short, quote-closed}

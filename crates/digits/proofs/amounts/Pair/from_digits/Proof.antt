@@ -1,9 +1,10 @@
 -- `Pair::from_digits` meets its contract: outside, a first byte above 9, a pair, a bad digit.
+use Prim.Native.Nat.{_+_}
 use borrow.Author.Needs.{needs}
-use mathlib.Core.Path.{sym}
+use mathlib.Core.Path.{sym, _∙_}
 use native.Mathlib.Omega.{arith}
 use denote.Ref.{now}
-use Rattle.digits.proofs.Places.{outside}
+use Rattle.digits.proofs.Places.{inside, outside}
 use Rattle.digits.proofs.Readings.{pair-over, pair-bad, pair-fits, pair-is}
 use Rattle.digits.proofs.amounts.Pair.from_digits.Statement.{statement}
 use Rattle.digits.proofs.amounts.Pair.from_digits.Tie as tie
@@ -29,11 +30,11 @@ returns-3 c =
     let a = c .before .before .before .before .before .args in
     pair-over (a .at) (now (a .s)) (omega arith) (c .if3 .taken)
 
-add-eight-in : tie.Need-add-eight-in
-add-eight-in c = search needs
+add-eight-at : tie.Need-add-eight-at
+add-eight-at c = search needs
 
-eight-in-requires : tie.Need-eight-in-requires
-eight-in-requires c κs = search needs
+eight-at-requires : tie.Need-eight-at-requires
+eight-at-requires c κs = search needs
 
 cast-t11 : tie.Need-cast-t11
 cast-t11 c = search needs
@@ -44,18 +45,18 @@ mul-t12 c = search needs
 add-t13 : tie.Need-add-t13
 add-t13 c =
     let a = c .before .before .before .before .before .before .before .before .args in
-    let l = pair-fits (a .at) (now (a .s)) (omega arith) (c .before .before .eight-in .ensures) (c .before .if4 .taken) in
+    let l = pair-fits (a .at) (now (a .s)) (omega arith) (c .before .before .eight-at .ensures ∙ inside 8 (a .at + 1) (now (a .s)) _ _ (omega arith)) (c .before .if4 .taken) in
     omega arith
 
 returns-4 : tie.Need-returns-4
 returns-4 c =
     let a = c .before .before .before .before .before .before .before .before .args in
-    pair-is (a .at) (now (a .s)) (omega arith) (c .before .before .eight-in .ensures) (c .before .before .before .if3 .left) (c .before .if4 .taken)
+    pair-is (a .at) (now (a .s)) (omega arith) (c .before .before .eight-at .ensures ∙ inside 8 (a .at + 1) (now (a .s)) _ _ (omega arith)) (c .before .before .before .if3 .left) (c .before .if4 .taken)
 
 returns-5 : tie.Need-returns-5
 returns-5 c =
     let a = c .before .before .before .before .before .before .before .args in
-    pair-bad (a .at) (now (a .s)) (omega arith) (c .before .eight-in .ensures) (c .if4 .left)
+    pair-bad (a .at) (now (a .s)) (omega arith) (c .before .eight-at .ensures ∙ inside 8 (a .at + 1) (now (a .s)) _ _ (omega arith)) (c .if4 .left)
 
 pub from-digits-spec : {M : Type 1} → statement M
 from-digits-spec =
@@ -66,8 +67,8 @@ from-digits-spec =
     returns-2
     shared-slice-read-b
     returns-3
-    add-eight-in
-    eight-in-requires
+    add-eight-at
+    eight-at-requires
     cast-t11
     mul-t12
     add-t13

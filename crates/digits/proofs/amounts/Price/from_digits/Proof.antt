@@ -1,9 +1,10 @@
 -- `Price::from_digits` meets its contract: outside, a first byte above 9, a price, a bad digit.
+use Prim.Native.Nat.{_+_}
 use borrow.Author.Needs.{needs}
-use mathlib.Core.Path.{sym}
+use mathlib.Core.Path.{sym, _∙_}
 use native.Mathlib.Omega.{arith}
 use denote.Ref.{now}
-use Rattle.digits.proofs.Places.{outside}
+use Rattle.digits.proofs.Places.{inside, outside}
 use Rattle.digits.proofs.Readings.{price-over, price-bad, price-fits, price-is}
 use Rattle.digits.proofs.amounts.Price.from_digits.Statement.{statement}
 use Rattle.digits.proofs.amounts.Price.from_digits.Tie as tie
@@ -29,11 +30,11 @@ returns-3 c =
     let a = c .before .before .before .before .before .args in
     price-over (a .at) (now (a .s)) (omega arith) (c .if3 .taken)
 
-add-four-in : tie.Need-add-four-in
-add-four-in c = search needs
+add-four-at : tie.Need-add-four-at
+add-four-at c = search needs
 
-four-in-requires : tie.Need-four-in-requires
-four-in-requires c κs = search needs
+four-at-requires : tie.Need-four-at-requires
+four-at-requires c κs = search needs
 
 cast-t11 : tie.Need-cast-t11
 cast-t11 c = search needs
@@ -44,18 +45,18 @@ mul-t12 c = search needs
 add-t13 : tie.Need-add-t13
 add-t13 c =
     let a = c .before .before .before .before .before .before .before .before .args in
-    let l = price-fits (a .at) (now (a .s)) (omega arith) (c .before .before .four-in .ensures) (c .before .if4 .taken) in
+    let l = price-fits (a .at) (now (a .s)) (omega arith) (c .before .before .four-at .ensures ∙ inside 4 (a .at + 1) (now (a .s)) _ _ (omega arith)) (c .before .if4 .taken) in
     omega arith
 
 returns-4 : tie.Need-returns-4
 returns-4 c =
     let a = c .before .before .before .before .before .before .before .before .args in
-    price-is (a .at) (now (a .s)) (omega arith) (c .before .before .four-in .ensures) (c .before .before .before .if3 .left) (c .before .if4 .taken)
+    price-is (a .at) (now (a .s)) (omega arith) (c .before .before .four-at .ensures ∙ inside 4 (a .at + 1) (now (a .s)) _ _ (omega arith)) (c .before .before .before .if3 .left) (c .before .if4 .taken)
 
 returns-5 : tie.Need-returns-5
 returns-5 c =
     let a = c .before .before .before .before .before .before .before .args in
-    price-bad (a .at) (now (a .s)) (omega arith) (c .before .four-in .ensures) (c .if4 .left)
+    price-bad (a .at) (now (a .s)) (omega arith) (c .before .four-at .ensures ∙ inside 4 (a .at + 1) (now (a .s)) _ _ (omega arith)) (c .if4 .left)
 
 pub from-digits-spec : {M : Type 1} → statement M
 from-digits-spec =
@@ -66,8 +67,8 @@ from-digits-spec =
     returns-2
     shared-slice-read-b
     returns-3
-    add-four-in
-    four-in-requires
+    add-four-at
+    four-at-requires
     cast-t11
     mul-t12
     add-t13
