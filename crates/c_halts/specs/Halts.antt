@@ -4,13 +4,13 @@ use mathlib.Core.Bool.{Bool, cond, _&&_}
 use mathlib.Core.List.{List, [], _∷_, _++_}
 use lib.ListN.{getD}
 use lib.Dec.{eqb}
-use Rattle.frame.specs.Codec.{legal, frameOf}
-use Rattle.frame.specs.Writing.{writeAnswer, writtenOver}
-use Rattle.outcomes.specs.Outcomes.{writeOutcome}
-use Rattle.halts.specs.Halts.{nineteenCodec, resumeOf, resumeNumber, sendingOf, sendingByte, stateRight}
-use Rattle.halts.specs.declared.Event.{Event}
-use Rattle.halts.specs.declared.Event.the-variants.{RoundEnd, Halted}
-use Rattle.halts.specs.declared.Halt.{Halt}
+use Rattle.stock_frame.specs.Codec.{legal, frameOf}
+use Rattle.stock_frame.specs.Writing.{writeAnswer, writtenOver}
+use Rattle.c_outcomes.specs.Outcomes.{writeOutcome}
+use Rattle.stock_halts.specs.Halts.{nineteenCodec, resumeOf, resumeNumber, sendingOf, sendingByte, stateRight}
+use Rattle.stock_halts.specs.declared.Event.{Event}
+use Rattle.stock_halts.specs.declared.Event.the-variants.{RoundEnd, Halted}
+use Rattle.stock_halts.specs.declared.Halt.{Halt}
 
 -- an event's three numbers: 0, the number of records and 0 at a round's end; 1, the halt time and the resume time, all nines while open
 abbrev pub eventNumbers : Event → List ℕ

@@ -1,9 +1,9 @@
 // Calls for C and Rust: halts read and written. A code, and an event as four numbers.
 ghost use mathlib.Core.Path.{_≡_};
 ghost use lib.ListN.{drop};
-ghost use Rattle.frames.specs.Reading.{haltAt};
-ghost use Rattle.outcomes.specs.Outcomes.{readOutcome};
-ghost use Rattle.outcomes.specs.Lent.{lent};
+ghost use Rattle.stock_reading.specs.Reading.{haltAt};
+ghost use Rattle.c_outcomes.specs.Outcomes.{readOutcome};
+ghost use Rattle.c_outcomes.specs.Lent.{lent};
 ghost use Rattle.c_halts.specs.Halts.{haltNumbers, haltFrom, haltOutcome, haltBytes};
 
 mod numbers;
@@ -11,11 +11,11 @@ mod numbers;
 use crate::numbers::halt_numbers;
 use crate::numbers::halt_of;
 use crate::numbers::tells_halt;
-use frame::answer::Written;
-use frames::reading::read_halt;
-use outcomes::is_of;
-use outcomes::of_answer;
-use outcomes::of_written;
+use answers::Written;
+use c_outcomes::is_of;
+use c_outcomes::of_answer;
+use c_outcomes::of_written;
+use stock_reading::reading::read_halt;
 
 // The answer, and a halt's code, and its event, number, resume and state.
 #[no_mangle]
@@ -56,5 +56,5 @@ pub extern "C" fn trivsome_write_halt_numbers(
         return of_written(Written::Illegal);
     }
     let halt = halt_of(seq, code, event);
-    of_written(halts::write(halt, buf))
+    of_written(stock_halts::write(halt, buf))
 }

@@ -1,11 +1,11 @@
 // Halts as numbers, and back.
 ghost use mathlib.Core.Path.{_≡_};
-ghost use Rattle.halts.specs.Halts.{resumeNumber, resumeOf, sendingByte, sendingOf, stateRight};
+ghost use Rattle.stock_halts.specs.Halts.{resumeNumber, resumeOf, sendingByte, sendingOf, stateRight};
 ghost use Rattle.c_halts.specs.Halts.{haltNumbers, tellsHalt, eventFrom, haltFrom};
-use halts::Event;
-use halts::Halt;
-use halts::Resume;
-use halts::Sending;
+use stock_halts::Event;
+use stock_halts::Halt;
+use stock_halts::Resume;
+use stock_halts::Sending;
 
 // All nines in a time's place.
 const NINES: u32 = 999999;

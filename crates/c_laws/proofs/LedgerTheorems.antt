@@ -19,7 +19,7 @@ use Rattle.ledger.proofs.SetLaws.{count-same}
 use Rattle.ledger.proofs.TrueLaws.{ends-heard}
 use Rattle.ledger.proofs.TurnLaws.{turn-falls, number-heard, fitted-falls, fitted-from}
 use Rattle.ledger.proofs.ArriveLaws.{valid-is, arrive-damaged, Arrives, outside, repeats, full, new, arrives}
-use Rattle.outcomes.specs.Outcomes.{answerPart}
+use Rattle.c_outcomes.specs.Outcomes.{answerPart}
 use Rattle.c_ledger.specs.Outcomes.{arrivalOutcome, figureOutcome, runOutcome, firstPart, lastPart}
 
 -- what stands above the answer

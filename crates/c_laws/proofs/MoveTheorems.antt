@@ -7,18 +7,18 @@ use native.Mathlib.Omega.{arith}
 use lib.ListN.{length, drop}
 use lib.Dec.{eqb, leb}
 use borrow.Author.Tests.{eqb-false, leb-false, ne-eqb}
-use Rattle.frame.specs.Answers.{answerNumber, answerLength}
-use Rattle.frame.specs.declared.answer.Answer.{Answer}
-use Rattle.frame.specs.declared.answer.Answer.the-variants.{Accepted}
-use Rattle.frame.specs.declared.answer.Frame.{Frame}
-use Rattle.frames.specs.Reading.{answerOf}
+use Rattle.answers.specs.Answers.{answerNumber, answerLength}
+use Rattle.answers.specs.declared.Answer.{Answer}
+use Rattle.answers.specs.declared.Answer.the-variants.{Accepted}
+use Rattle.answers.specs.declared.Frame.{Frame}
+use Rattle.stock_reading.specs.Reading.{answerOf}
 use Rattle.walk.specs.Walk.{isWhole, taken, stops}
 use Rattle.walk.specs.declared.tally.Tally.{Tally}
 use Rattle.walk.proofs.WalkLaws.{takes-some}
-use Rattle.lines.specs.Lines.{answers, longest, moveAt}
-use Rattle.lines.specs.declared.moves.Step.{Step}
-use Rattle.lines.proofs.LineLaws.{sound-answers}
-use Rattle.outcomes.specs.Outcomes.{answerPart, formatPart, lengthPart, seqPart, pastOutcome}
+use Rattle.stock_lines.specs.Lines.{answers, longest, moveAt}
+use Rattle.stock_lines.specs.declared.moves.Step.{Step}
+use Rattle.stock_lines.proofs.LineLaws.{sound-answers}
+use Rattle.c_outcomes.specs.Outcomes.{answerPart, formatPart, lengthPart, seqPart, pastOutcome}
 use Rattle.c_walking.specs.Walking.{moveOutcome, tallyFrom, tallyNumbers}
 use Rattle.c_laws.proofs.OutcomeTheorems.{answerIn, number-in, frame-in, answer-short, past-back}
 

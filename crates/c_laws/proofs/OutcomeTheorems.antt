@@ -9,18 +9,18 @@ use lib.Dec.{eqb, leb}
 use borrow.Author.Tests.{eqb-true, eqb-false, ne-eqb, leb-true, leb-false}
 use Rattle.digits.specs.Packed.{goodField}
 use Rattle.digits.proofs.Bools.{and-left, and-right, no-false}
-use Rattle.frame.specs.Rows.{Row, must, firstFail}
-use Rattle.frame.specs.Answers.{named, answerNumber, answerLength}
-use Rattle.frame.specs.Outline.{lengthBytes, lengthOf, own, body, business, format, version, number, lengthRight, outlineRows}
-use Rattle.frame.specs.Format.{bodyRows}
-use Rattle.frame.specs.declared.answer.Frame.{Frame}
-use Rattle.frame.specs.declared.answer.Answer.{Answer}
-use Rattle.frame.specs.declared.answer.Answer.the-variants.{Accepted, NoFrame, Refused}
-use Rattle.frame.proofs.RowLaws.{row-holds, firstFail-append}
-use Rattle.frames.specs.Reading.{formatOf, isFormat, kindRows, rows, answerOf}
-use Rattle.frames.proofs.Trips.{number-named, answer-number}
-use Rattle.outcomes.specs.Lent.{isOf}
-use Rattle.outcomes.specs.Outcomes.{outcome, answerPart, formatPart, lengthPart, seqPart, readOutcome, pastOutcome}
+use Rattle.layout.specs.Rows.{Row, must, firstFail}
+use Rattle.answers.specs.Answers.{named, answerNumber, answerLength}
+use Rattle.stock_frame.specs.Outline.{lengthBytes, lengthOf, own, body, business, format, version, number, lengthRight, outlineRows}
+use Rattle.stock_frame.specs.Format.{bodyRows}
+use Rattle.answers.specs.declared.Frame.{Frame}
+use Rattle.answers.specs.declared.Answer.{Answer}
+use Rattle.answers.specs.declared.Answer.the-variants.{Accepted, NoFrame, Refused}
+use Rattle.layout.proofs.RowLaws.{row-holds, firstFail-append}
+use Rattle.stock_reading.specs.Reading.{formatOf, isFormat, kindRows, rows, answerOf}
+use Rattle.stock_reading.proofs.Trips.{number-named, answer-number}
+use Rattle.c_outcomes.specs.Lent.{isOf}
+use Rattle.c_outcomes.specs.Outcomes.{outcome, answerPart, formatPart, lengthPart, seqPart, readOutcome, pastOutcome}
 
 -- the four parts of an outcome are what it was made from
 pub outcome-parts : (a f l s : ℕ) → a < 256 → f < 256 → l < 65536

@@ -8,27 +8,27 @@ use lib.ListN.{length, getD, take, drop, replicate, length-append, length-drop}
 use lib.Seq.{take-at, drop-at, getD-drop, drop-drop}
 use lib.Dec.{eqb}
 use borrow.Author.Tests.{le-leb}
-use Rattle.digits.specs.Amounts.{asPrice, asQuantity}
-use Rattle.digits.specs.declared.amounts.Pair.{Pair}
+use Rattle.amounts.specs.Amounts.{asPrice, asQuantity}
+use Rattle.amounts.specs.declared.Pair.{Pair}
 use Rattle.digits.proofs.Bools.{and-right, no-false}
-use Rattle.frame.specs.Times.{nines, codeAt}
-use Rattle.notices.specs.Notices.{room, tidyNotice, ShapedNotice}
-use Rattle.notices.specs.declared.Notice.{Notice}
-use Rattle.notices.proofs.NoticeLaws.{from-parts}
-use Rattle.quotes.specs.Quotes.{ShapedQuote}
-use Rattle.quotes.specs.declared.quote.Quote.{Quote}
-use Rattle.quotes.proofs.QuoteLaws.{of-six}
-use Rattle.halts.specs.Halts.{resumeOf, resumeNumber, sendingOf, sendingByte, sameResume, tidyEvent}
-use Rattle.halts.specs.declared.Resume.{Resume}
-use Rattle.halts.specs.declared.Resume.the-variants.{Open, At}
-use Rattle.halts.specs.declared.Event.{Event}
-use Rattle.halts.specs.declared.Event.the-variants.{RoundEnd, Halted}
-use Rattle.halts.specs.declared.Sending.{Sending}
-use Rattle.halts.specs.declared.Sending.the-variants.{Cycle, Instant}
-use Rattle.halts.specs.declared.Halt.{Halt}
-use Rattle.prices.specs.Prices.{slotCount, codesLong, ShapedPrices}
-use Rattle.prices.specs.declared.Slot.{Slot}
-use Rattle.prices.specs.declared.Prices.{Prices}
+use Rattle.codes_times.specs.Times.{nines, codeAt}
+use Rattle.stock_notices.specs.Notices.{room, tidyNotice, ShapedNotice}
+use Rattle.stock_notices.specs.declared.Notice.{Notice}
+use Rattle.stock_notices.proofs.NoticeLaws.{from-parts}
+use Rattle.stock_quotes.specs.Quotes.{ShapedQuote}
+use Rattle.stock_quotes.specs.declared.quote.Quote.{Quote}
+use Rattle.stock_quotes.proofs.QuoteLaws.{of-six}
+use Rattle.stock_halts.specs.Halts.{resumeOf, resumeNumber, sendingOf, sendingByte, sameResume, tidyEvent}
+use Rattle.stock_halts.specs.declared.Resume.{Resume}
+use Rattle.stock_halts.specs.declared.Resume.the-variants.{Open, At}
+use Rattle.stock_halts.specs.declared.Event.{Event}
+use Rattle.stock_halts.specs.declared.Event.the-variants.{RoundEnd, Halted}
+use Rattle.stock_halts.specs.declared.Sending.{Sending}
+use Rattle.stock_halts.specs.declared.Sending.the-variants.{Cycle, Instant}
+use Rattle.stock_halts.specs.declared.Halt.{Halt}
+use Rattle.stock_prices.specs.Prices.{slotCount, codesLong, ShapedPrices}
+use Rattle.stock_prices.specs.declared.Slot.{Slot}
+use Rattle.stock_prices.specs.declared.Prices.{Prices}
 use Rattle.c_notices.specs.Notices.{noticeFrom}
 use Rattle.c_quotes.specs.Quotes.{quoteBytes, quoteAmounts, quoteFrom}
 use Rattle.c_prices.specs.Slots.{slotCodes, slotAmounts, slotTimes, slotIn, slotsIn, pricesFrom}

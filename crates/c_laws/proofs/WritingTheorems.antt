@@ -8,23 +8,23 @@ use lib.ListN.{length}
 use lib.Dec.{leb}
 use borrow.Author.Tests.{leb-true}
 use Rattle.digits.proofs.Bools.{and-right}
-use Rattle.frame.specs.Cells.{size}
-use Rattle.frame.specs.Answers.{writtenNumber}
-use Rattle.frame.specs.Format.{around}
-use Rattle.frame.specs.Codec.{Codec, legal, frameOf}
-use Rattle.frame.specs.Writing.{writeAnswer}
-use Rattle.frame.specs.declared.answer.Written.the-variants.{Done, Illegal, NoRoom}
-use Rattle.frame.proofs.CodecLaws.{Lawful, legal-range, length-frameOf}
-use Rattle.notices.specs.Notices.{fiveCodec, ShapedNotice}
-use Rattle.notices.proofs.NoticeLaws.{notices-lawful}
-use Rattle.quotes.specs.Quotes.{sixCodec, ShapedQuote}
-use Rattle.quotes.proofs.QuoteLaws.{quotes-lawful}
-use Rattle.prices.specs.Prices.{twelveCodec, ShapedPrices}
-use Rattle.prices.proofs.PriceLaws.{prices-lawful}
-use Rattle.halts.specs.Halts.{nineteenCodec, ShapedHalt}
-use Rattle.halts.specs.declared.Halt.{Halt}
-use Rattle.halts.proofs.HaltLaws.{halts-lawful}
-use Rattle.outcomes.specs.Outcomes.{answerPart, lengthPart, writeOutcome}
+use Rattle.layout.specs.Cells.{size}
+use Rattle.answers.specs.Answers.{writtenNumber}
+use Rattle.stock_frame.specs.Format.{around}
+use Rattle.stock_frame.specs.Codec.{Codec, legal, frameOf}
+use Rattle.stock_frame.specs.Writing.{writeAnswer}
+use Rattle.answers.specs.declared.Written.the-variants.{Done, Illegal, NoRoom}
+use Rattle.stock_frame.proofs.CodecLaws.{Lawful, legal-range, length-frameOf}
+use Rattle.stock_notices.specs.Notices.{fiveCodec, ShapedNotice}
+use Rattle.stock_notices.proofs.NoticeLaws.{notices-lawful}
+use Rattle.stock_quotes.specs.Quotes.{sixCodec, ShapedQuote}
+use Rattle.stock_quotes.proofs.QuoteLaws.{quotes-lawful}
+use Rattle.stock_prices.specs.Prices.{twelveCodec, ShapedPrices}
+use Rattle.stock_prices.proofs.PriceLaws.{prices-lawful}
+use Rattle.stock_halts.specs.Halts.{nineteenCodec, ShapedHalt}
+use Rattle.stock_halts.specs.declared.Halt.{Halt}
+use Rattle.stock_halts.proofs.HaltLaws.{halts-lawful}
+use Rattle.c_outcomes.specs.Outcomes.{answerPart, lengthPart, writeOutcome}
 use Rattle.c_halts.specs.Halts.{tellsHalt, haltOutcome}
 use Rattle.c_laws.proofs.OutcomeTheorems.{outcome-parts}
 

@@ -8,22 +8,22 @@ use lib.ListN.{length, take, drop, replicate, length-drop}
 use lib.Seq.{drop-drop}
 use borrow.Author.Tests.{eqb-true}
 use Rattle.digits.proofs.Bools.{no-false}
-use Rattle.frame.specs.Outline.{lengthOf, own, body}
-use Rattle.frame.specs.Format.{valuesOf}
-use Rattle.frame.specs.Bytes.{bytesOver}
-use Rattle.frame.specs.declared.answer.Answer.{Answer}
-use Rattle.frame.specs.declared.answer.Answer.the-variants.{Accepted, NoFrame, Refused}
-use Rattle.frame.proofs.OutlineLaws.{within-line, length-body}
-use Rattle.frame.proofs.PartLaws.{body-part}
-use Rattle.frame.proofs.CodecLaws.{Reads}
-use Rattle.notices.specs.Notices.{five, fiveCodec, room}
-use Rattle.notices.specs.declared.Notice.{Notice}
-use Rattle.notices.specs.declared.NoticeReading.{NoticeReading}
-use Rattle.notices.proofs.NoticeLaws.{text-length, ranged-text, text-put}
-use Rattle.notices.proofs.ReadSteps.{values-five}
-use Rattle.frames.specs.Reading.{answerOf, noticeAt}
-use Rattle.frames.proofs.Trips.{trips-five}
-use Rattle.outcomes.specs.Lent.{isOf}
+use Rattle.stock_frame.specs.Outline.{lengthOf, own, body}
+use Rattle.stock_frame.specs.Format.{valuesOf}
+use Rattle.layout.specs.Bytes.{bytesOver}
+use Rattle.answers.specs.declared.Answer.{Answer}
+use Rattle.answers.specs.declared.Answer.the-variants.{Accepted, NoFrame, Refused}
+use Rattle.stock_frame.proofs.OutlineLaws.{within-line, length-body}
+use Rattle.stock_frame.proofs.PartLaws.{body-part}
+use Rattle.stock_frame.proofs.CodecLaws.{Reads}
+use Rattle.stock_notices.specs.Notices.{five, fiveCodec, room}
+use Rattle.stock_notices.specs.declared.Notice.{Notice}
+use Rattle.stock_notices.specs.declared.NoticeReading.{NoticeReading}
+use Rattle.stock_notices.proofs.NoticeLaws.{text-length, ranged-text, text-put}
+use Rattle.stock_notices.proofs.ReadSteps.{values-five}
+use Rattle.stock_reading.specs.Reading.{answerOf, noticeAt}
+use Rattle.stock_reading.proofs.Trips.{trips-five}
+use Rattle.c_outcomes.specs.Lent.{isOf}
 
 -- all but the first of the first bytes
 behind-first : (k : ℕ) (l : List ℕ) → drop 1 (take (suc k) l) ≡ take k (drop 1 l)

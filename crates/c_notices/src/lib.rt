@@ -1,17 +1,17 @@
 // Calls for C and Rust: notices read and written. A category and a text.
 ghost use mathlib.Core.Path.{_≡_};
 ghost use lib.ListN.{drop};
-ghost use Rattle.frames.specs.Reading.{noticeAt};
-ghost use Rattle.notices.specs.Notices.{fiveCodec};
-ghost use Rattle.outcomes.specs.Outcomes.{readOutcome};
-ghost use Rattle.outcomes.specs.Lent.{lent};
-ghost use Rattle.outcomes.specs.Written.{writtenOutcome, writtenBytes};
+ghost use Rattle.stock_reading.specs.Reading.{noticeAt};
+ghost use Rattle.stock_notices.specs.Notices.{fiveCodec};
+ghost use Rattle.c_outcomes.specs.Outcomes.{readOutcome};
+ghost use Rattle.c_outcomes.specs.Lent.{lent};
+ghost use Rattle.c_outcomes.specs.Written.{writtenOutcome, writtenBytes};
 ghost use Rattle.c_notices.specs.Notices.{noticeFrom};
-use frame::bytes::put_bytes;
-use frames::reading::read_notice;
-use outcomes::is_of;
-use outcomes::of_answer;
-use outcomes::of_written;
+use c_outcomes::is_of;
+use c_outcomes::of_answer;
+use c_outcomes::of_written;
+use layout::put_bytes;
+use stock_reading::reading::read_notice;
 
 // The answer, and a notice's category and text; the text's length is the frame's without 14.
 #[no_mangle]
@@ -50,5 +50,5 @@ pub extern "C" fn trivsome_write_notice_numbers(
     ensures { λ r. ⌜ r ≡ writtenOutcome fiveCodec (noticeFrom seq category (now (text .entry))) (now (buf .entry)) ⌝ }
     ensures { λ _. ⌜ now (buf .exit) ≡ writtenBytes fiveCodec (noticeFrom seq category (now (text .entry))) (now (buf .entry)) ⌝ }
 {
-    of_written(notices::write_text(seq, category, text, buf))
+    of_written(stock_notices::write_text(seq, category, text, buf))
 }

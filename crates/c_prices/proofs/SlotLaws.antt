@@ -6,9 +6,9 @@ use native.Mathlib.Omega.{arith}
 use native.Mathlib.Numerals.{add-one}
 use lib.ListN.{length, getD, drop, replicate, set, length-append, length-replicate, drop-of-length-le}
 use lib.Seq.{sets, sets-eq, drop-cons}
-use Rattle.frame.proofs.PutLaws.{sets-behind}
-use Rattle.prices.specs.Prices.{codesLong}
-use Rattle.prices.specs.declared.Slot.{Slot}
+use Rattle.layout.proofs.PutLaws.{sets-behind}
+use Rattle.stock_prices.specs.Prices.{codesLong}
+use Rattle.stock_prices.specs.declared.Slot.{Slot}
 use Rattle.c_prices.specs.Slots.{spread, codeIn, amountsIn}
 
 -- five entries put one after the other

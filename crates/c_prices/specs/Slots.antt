@@ -2,11 +2,11 @@
 use Prim.Native.Nat.{ℕ, zero, suc, _+_, _*_}
 use mathlib.Core.List.{List, [], _∷_, _++_, map}
 use lib.ListN.{getD}
-use Rattle.digits.specs.Amounts.{asPrice, asQuantity}
-use Rattle.frame.specs.Times.{codeAt}
-use Rattle.prices.specs.Prices.{slotCount}
-use Rattle.prices.specs.declared.Slot.{Slot}
-use Rattle.prices.specs.declared.Prices.{Prices}
+use Rattle.amounts.specs.Amounts.{asPrice, asQuantity}
+use Rattle.codes_times.specs.Times.{codeAt}
+use Rattle.stock_prices.specs.Prices.{slotCount}
+use Rattle.stock_prices.specs.declared.Slot.{Slot}
+use Rattle.stock_prices.specs.declared.Prices.{Prices}
 
 -- what each slot tells, one slot after the other
 abbrev pub spread : (Slot → List ℕ) → List Slot → List ℕ

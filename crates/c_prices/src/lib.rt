@@ -1,11 +1,11 @@
 // Calls for C and Rust: opening and closing prices read and written. A count, and the codes, amounts and times of ten slots.
 ghost use mathlib.Core.Path.{_≡_};
 ghost use lib.ListN.{drop};
-ghost use Rattle.frames.specs.Reading.{pricesAt};
-ghost use Rattle.prices.specs.Prices.{twelveCodec};
-ghost use Rattle.outcomes.specs.Outcomes.{readOutcome};
-ghost use Rattle.outcomes.specs.Lent.{lent};
-ghost use Rattle.outcomes.specs.Written.{writtenOutcome, writtenBytes};
+ghost use Rattle.stock_reading.specs.Reading.{pricesAt};
+ghost use Rattle.stock_prices.specs.Prices.{twelveCodec};
+ghost use Rattle.c_outcomes.specs.Outcomes.{readOutcome};
+ghost use Rattle.c_outcomes.specs.Lent.{lent};
+ghost use Rattle.c_outcomes.specs.Written.{writtenOutcome, writtenBytes};
 ghost use Rattle.c_prices.specs.Slots.{slotCodes, slotAmounts, slotTimes, pricesFrom};
 
 mod slots;
@@ -14,11 +14,11 @@ use crate::slots::slot_amounts;
 use crate::slots::slot_codes;
 use crate::slots::slot_times;
 use crate::slots::slots_of;
-use frames::reading::read_prices;
-use outcomes::is_of;
-use outcomes::of_answer;
-use outcomes::of_written;
-use prices::Prices;
+use c_outcomes::is_of;
+use c_outcomes::of_answer;
+use c_outcomes::of_written;
+use stock_prices::Prices;
+use stock_reading::reading::read_prices;
 
 // The answer, and the count, the codes, the amounts and the times of prices.
 #[no_mangle]
@@ -65,5 +65,5 @@ pub extern "C" fn trivsome_write_prices_numbers(
 {
     let slots = slots_of(codes, amounts, times);
     let prices = Prices { seq, count, slots };
-    of_written(prices::write(prices, buf))
+    of_written(stock_prices::write(prices, buf))
 }

@@ -3,14 +3,14 @@ ghost use Prim.Native.Nat.{_<_};
 ghost use mathlib.Core.Path.{_≡_};
 ghost use lib.ListN.{replicate};
 ghost use lib.Seq.{sets};
-ghost use Rattle.frame.specs.Bytes.{bytesOver};
-ghost use Rattle.prices.specs.Prices.{slotCount};
+ghost use Rattle.layout.specs.Bytes.{bytesOver};
+ghost use Rattle.stock_prices.specs.Prices.{slotCount};
 ghost use Rattle.c_prices.specs.Slots.{codeIn, amountsIn, slotCodes, slotAmounts, slotTimes, slotIn, slotsIn};
-use digits::amounts::Price;
-use digits::amounts::Quantity;
-use frame::bytes::put_bytes;
-use frame::rules::code_at;
-use prices::Slot;
+use amounts::Price;
+use amounts::Quantity;
+use codes_times::code_at;
+use layout::put_bytes;
+use stock_prices::Slot;
 
 // No codes, and no amounts.
 fn no_codes() -> [u8; 60]

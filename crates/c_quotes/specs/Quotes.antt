@@ -2,11 +2,11 @@
 use Prim.Native.Nat.{ℕ, zero, suc, _+_}
 use mathlib.Core.List.{List, [], _∷_, _++_}
 use lib.ListN.{getD}
-use Rattle.digits.specs.Amounts.{asQuantity}
-use Rattle.digits.specs.declared.amounts.Pair.{Pair}
-use Rattle.frame.specs.Times.{codeAt}
-use Rattle.quotes.specs.Quotes.{pair, flat, sideRoom}
-use Rattle.quotes.specs.declared.quote.Quote.{Quote}
+use Rattle.amounts.specs.Amounts.{asQuantity}
+use Rattle.amounts.specs.declared.Pair.{Pair}
+use Rattle.codes_times.specs.Times.{codeAt}
+use Rattle.stock_quotes.specs.Quotes.{pair, flat, sideRoom}
+use Rattle.stock_quotes.specs.declared.quote.Quote.{Quote}
 
 -- a quote's code, reveal, limit and status bytes
 abbrev pub quoteBytes : Quote → List ℕ

@@ -1,11 +1,11 @@
 // Calls for C and Rust: quotes read and written. Nine bytes, a time and 23 amounts.
 ghost use mathlib.Core.Path.{_≡_};
 ghost use lib.ListN.{drop};
-ghost use Rattle.frames.specs.Reading.{quoteAt};
-ghost use Rattle.quotes.specs.Quotes.{sixCodec};
-ghost use Rattle.outcomes.specs.Outcomes.{readOutcome};
-ghost use Rattle.outcomes.specs.Lent.{lent};
-ghost use Rattle.outcomes.specs.Written.{writtenOutcome, writtenBytes};
+ghost use Rattle.stock_reading.specs.Reading.{quoteAt};
+ghost use Rattle.stock_quotes.specs.Quotes.{sixCodec};
+ghost use Rattle.c_outcomes.specs.Outcomes.{readOutcome};
+ghost use Rattle.c_outcomes.specs.Lent.{lent};
+ghost use Rattle.c_outcomes.specs.Written.{writtenOutcome, writtenBytes};
 ghost use Rattle.c_quotes.specs.Quotes.{quoteBytes, quoteAmounts, quoteFrom};
 
 mod numbers;
@@ -13,10 +13,10 @@ mod numbers;
 use crate::numbers::quote_amounts;
 use crate::numbers::quote_bytes;
 use crate::numbers::quote_of;
-use frames::reading::read_quote;
-use outcomes::is_of;
-use outcomes::of_answer;
-use outcomes::of_written;
+use c_outcomes::is_of;
+use c_outcomes::of_answer;
+use c_outcomes::of_written;
+use stock_reading::reading::read_quote;
 
 // The answer, and a quote's bytes, time and amounts.
 #[no_mangle]
@@ -57,5 +57,5 @@ pub extern "C" fn trivsome_write_quote_numbers(
     ensures { λ _. ⌜ now (buf .exit) ≡ writtenBytes sixCodec (quoteFrom seq (now (bytes .entry)) time (now (amounts .entry))) (now (buf .entry)) ⌝ }
 {
     let quote = quote_of(seq, bytes, time, amounts);
-    of_written(quotes::writing::write(quote, buf))
+    of_written(stock_quotes::writing::write(quote, buf))
 }

@@ -2,11 +2,11 @@
 ghost use Prim.Native.Nat.{_<_};
 ghost use mathlib.Core.Path.{_≡_};
 ghost use Rattle.c_quotes.specs.Quotes.{quoteBytes, quoteAmounts, pairAt, quoteFrom};
-use digits::amounts::Pair;
-use digits::amounts::Price;
-use digits::amounts::Quantity;
-use frame::rules::code_at;
-use quotes::quote::Quote;
+use amounts::Pair;
+use amounts::Price;
+use amounts::Quantity;
+use codes_times::code_at;
+use stock_quotes::quote::Quote;
 
 // A quote's code, reveal, limit and status bytes.
 pub(crate) fn quote_bytes(q: Quote) -> [u8; 9]

@@ -2,9 +2,9 @@
 use Prim.Native.Nat.{ℕ}
 use mathlib.Core.List.{List, [], _∷_}
 use lib.ListN.{getD}
-use Rattle.frame.specs.declared.answer.Answer.the-variants.{NoFrame}
-use Rattle.lines.specs.declared.moves.Step.{Step}
-use Rattle.outcomes.specs.Outcomes.{readOutcome, pastOutcome}
+use Rattle.answers.specs.declared.Answer.the-variants.{NoFrame}
+use Rattle.stock_lines.specs.declared.moves.Step.{Step}
+use Rattle.c_outcomes.specs.Outcomes.{readOutcome, pastOutcome}
 use Rattle.walk.specs.declared.tally.Tally.{Tally}
 
 -- a move's outcome; where the walk stops it is 2, and no bytes

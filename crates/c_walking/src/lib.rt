@@ -2,18 +2,18 @@
 // that no work on them is done here.
 ghost use mathlib.Core.Path.{_≡_};
 ghost use lib.ListN.{drop};
-ghost use Rattle.frames.specs.Reading.{answerOf};
-ghost use Rattle.outcomes.specs.Outcomes.{readOutcome};
+ghost use Rattle.stock_reading.specs.Reading.{answerOf};
+ghost use Rattle.c_outcomes.specs.Outcomes.{readOutcome};
 ghost use Rattle.walk.specs.Tally.{talliedOf};
-ghost use Rattle.lines.specs.Lines.{answers, moveAt};
+ghost use Rattle.stock_lines.specs.Lines.{answers, moveAt};
 ghost use Rattle.c_walking.specs.Walking.{moveOutcome, tallyFrom, tallyNumbers};
-use frame::answer::Answer;
-use frames::reading::read;
-use lines::figures::walked;
-use lines::moves::Step;
-use lines::moves::move_at;
-use outcomes::of_answer;
-use outcomes::of_move;
+use answers::Answer;
+use c_outcomes::of_answer;
+use c_outcomes::of_move;
+use stock_lines::figures::walked;
+use stock_lines::moves::Step;
+use stock_lines::moves::move_at;
+use stock_reading::reading::read;
 use walk::tally::Tally;
 
 // The answer alone, with its figures.

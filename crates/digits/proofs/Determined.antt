@@ -1,34 +1,25 @@
--- Every public function's contract allows one result: any two that it allows are equal.
+-- The contracts of reading and writing a field leave no choice: any two results that they allow are equal.
 use mathlib.Core.Path.{_≡_, sym, _∙_}
 use contract.Lifetimes
 use borrow.Fn.World
 use borrow.Fn.Kinds as kinds
 use denote.Triple.Clauses
-use Rattle.digits.proofs.check.xor_of as xor
-use Rattle.digits.proofs.check.xor_of.Kinds as xor-kinds
-use Rattle.digits.proofs.check.xor_of.Reads as xor-reads
-use Rattle.digits.proofs.halves.eight_at as eight
-use Rattle.digits.proofs.halves.eight_at.Kinds as eight-kinds
-use Rattle.digits.proofs.halves.eight_at.Reads as eight-reads
-use Rattle.digits.proofs.halves.four_at as four
-use Rattle.digits.proofs.halves.four_at.Kinds as four-kinds
-use Rattle.digits.proofs.halves.four_at.Reads as four-reads
-use Rattle.digits.proofs.halves.six_at as six
-use Rattle.digits.proofs.halves.six_at.Kinds as six-kinds
-use Rattle.digits.proofs.halves.six_at.Reads as six-reads
+use denote.Ref.{now}
+use Rattle.digits.proofs.fields.read
+use Rattle.digits.proofs.fields.read.Kinds as rown
+use Rattle.digits.proofs.fields.read.Reads as rreads
+use Rattle.digits.proofs.fields.write
+use Rattle.digits.proofs.fields.write.Kinds as wown
+use Rattle.digits.proofs.fields.write.Reads as wreads
 
-pub determined-xor-of : (κs : Lifetimes.Lfts 1) (a : World.ArgsD xor.signature κs) (r₁ r₂ : World.ResD xor.signature κs)
-    (s₁ s₂ : Clauses.AtExit (kinds.endedOf 1 xor-kinds.ps xor-kinds.r) κs) → xor-reads.Post κs a r₁ s₁ → xor-reads.Post κs a r₂ s₂ → r₁ ≡ r₂
-determined-xor-of κs a r₁ r₂ s₁ s₂ p q = p ∙ sym q
+-- what `read` answers
+pub determined-read : (κs : Lifetimes.Lfts 1) (a : World.ArgsD read.signature κs) (r₁ r₂ : World.ResD read.signature κs)
+    (s₁ s₂ : Clauses.AtExit (kinds.endedOf 1 rown.ps rown.r) κs) → rreads.Post κs a r₁ s₁ → rreads.Post κs a r₂ s₂
+    → r₁ ≡ r₂
+determined-read κs a r₁ r₂ s₁ s₂ p q = p ∙ sym q
 
-pub determined-eight-at : (κs : Lifetimes.Lfts 1) (a : World.ArgsD eight.signature κs) (r₁ r₂ : World.ResD eight.signature κs)
-    (s₁ s₂ : Clauses.AtExit (kinds.endedOf 1 eight-kinds.ps eight-kinds.r) κs) → eight-reads.Post κs a r₁ s₁ → eight-reads.Post κs a r₂ s₂ → r₁ ≡ r₂
-determined-eight-at κs a r₁ r₂ s₁ s₂ p q = p ∙ sym q
-
-pub determined-four-at : (κs : Lifetimes.Lfts 1) (a : World.ArgsD four.signature κs) (r₁ r₂ : World.ResD four.signature κs)
-    (s₁ s₂ : Clauses.AtExit (kinds.endedOf 1 four-kinds.ps four-kinds.r) κs) → four-reads.Post κs a r₁ s₁ → four-reads.Post κs a r₂ s₂ → r₁ ≡ r₂
-determined-four-at κs a r₁ r₂ s₁ s₂ p q = p ∙ sym q
-
-pub determined-six-at : (κs : Lifetimes.Lfts 1) (a : World.ArgsD six.signature κs) (r₁ r₂ : World.ResD six.signature κs)
-    (s₁ s₂ : Clauses.AtExit (kinds.endedOf 1 six-kinds.ps six-kinds.r) κs) → six-reads.Post κs a r₁ s₁ → six-reads.Post κs a r₂ s₂ → r₁ ≡ r₂
-determined-six-at κs a r₁ r₂ s₁ s₂ p q = p ∙ sym q
+-- what `write` answers, and the bytes afterwards
+pub determined-write : (κs : Lifetimes.Lfts 1) (a : World.ArgsD write.signature κs) (r₁ r₂ : World.ResD write.signature κs)
+    (s₁ s₂ : Clauses.AtExit (kinds.endedOf 1 wown.ps wown.r) κs) → wreads.Post κs a r₁ s₁ → wreads.Post κs a r₂ s₂
+    → (r₁ ≡ r₂) × (now (s₁ .1 .1 .0) ≡ now (s₂ .1 .1 .0))
+determined-write κs a r₁ r₂ s₁ s₂ p q = (p .0 ∙ sym (q .0), p .1 ∙ sym (q .1))

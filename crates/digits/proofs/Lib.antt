@@ -1,19 +1,13 @@
 -- The laws that the proofs cite, and the theorems that belong to no one function.
 pub mod Bools
+pub mod TestLaws
 pub mod Powers
 pub mod PackedLaws
 pub mod Values
-pub mod Lanes
-pub mod Leaf
-pub mod Loads
-pub mod XorLaws
 pub mod Places
-pub mod Readings
 pub mod Within
 pub mod ReadSteps
 pub mod WriteSteps
 pub mod PutLaws
 pub mod FieldLaws
 pub mod Determined
-pub mod DeterminedAmounts
-pub mod DeterminedFields

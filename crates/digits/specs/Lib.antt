@@ -1,8 +1,4 @@
--- Packed digits and what is read of them: definitions that the contracts cite.
+-- Packed digits, and a field of them read and written: definitions that the contracts cite.
+pub mod Tests
 pub mod Packed
-pub mod Words
-pub mod Check
-pub mod Halves
-pub mod Amounts
 pub mod Fields
-pub mod Steps

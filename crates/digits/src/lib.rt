@@ -1,7 +1,2 @@
-// Packed digits: numbers read out of lent bytes and written into them; and the exclusive-or of bytes. Nothing here knows
-// of frames.
-pub mod amounts;
-pub mod check;
+// Packed digits: numbers read out of lent bytes and written into them. Nothing here knows of frames.
 pub mod fields;
-pub mod halves;
-mod words;

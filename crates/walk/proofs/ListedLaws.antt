@@ -8,7 +8,7 @@ use lib.ListN.{length, drop, length-drop, length-append}
 use lib.Seq.{drop-append-le, drop-drop}
 use lib.Dec.{eqb}
 use borrow.Author.Tests.{le-leb}
-use Rattle.frame.specs.declared.answer.Answer.{Answer}
+use Rattle.answers.specs.declared.Answer.{Answer}
 use Rattle.walk.specs.Walk.{Reading, Move, taken, stops, walkFrom, walk}
 use Rattle.walk.specs.Sound.{Sound}
 use Rattle.walk.specs.Answers.{answering}

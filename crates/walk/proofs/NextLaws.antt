@@ -6,8 +6,8 @@ use mathlib.Core.List.{List}
 use native.Mathlib.Omega.{arith}
 use lib.ListN.{length, drop}
 use lib.Dec.{eqb}
-use Rattle.frame.specs.Answers.{answerNumber}
-use Rattle.frame.specs.declared.answer.Answer.{Answer}
+use Rattle.answers.specs.Answers.{answerNumber}
+use Rattle.answers.specs.declared.Answer.{Answer}
 use Rattle.walk.specs.Walk.{Reading, Move, walkFrom}
 use Rattle.walk.specs.Sound.{Sound}
 use Rattle.walk.specs.Answers.{answering, pastOf}

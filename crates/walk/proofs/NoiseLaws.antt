@@ -9,8 +9,8 @@ use lib.ListN.{length, getD, drop, drop-of-length-le}
 use lib.Seq.{drop-cons}
 use lib.Dec.{eqb}
 use borrow.Author.Tests.{eqb-false, eq-eqb, ne-eqb}
-use Rattle.frame.specs.declared.answer.Answer.{Answer}
-use Rattle.frame.specs.declared.answer.Answer.the-variants.{NoFrame}
+use Rattle.answers.specs.declared.Answer.{Answer}
+use Rattle.answers.specs.declared.Answer.the-variants.{NoFrame}
 use Rattle.walk.specs.Walk.{Reading, Move, taken, stops, walkFrom}
 use Rattle.walk.specs.Sound.{Sound}
 use Rattle.walk.specs.Answers.{answering}

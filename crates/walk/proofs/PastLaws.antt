@@ -4,8 +4,8 @@ use mathlib.Core.Path.{_≡_, sym, ap, _∙_}
 use mathlib.Core.Bool.{Bool, true, false, cond}
 use native.Mathlib.Omega.{arith}
 use borrow.Author.Tests.{eq-eqb, ne-eqb, le-leb, lt-leb}
-use Rattle.frame.specs.Answers.{answerNumber, answerLength}
-use Rattle.frame.specs.declared.answer.Answer.{Answer}
+use Rattle.answers.specs.Answers.{answerNumber, answerLength}
+use Rattle.answers.specs.declared.Answer.{Answer}
 use Rattle.walk.specs.Walk.{isWhole}
 use Rattle.walk.specs.Answers.{pastOf}
 

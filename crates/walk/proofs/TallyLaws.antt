@@ -5,8 +5,8 @@ use mathlib.Core.Bool.{Bool, true, false}
 use native.Mathlib.Omega.{arith}
 use lib.Dec.{leb}
 use borrow.Author.Tests.{eq-eqb, ne-eqb, le-leb, lt-leb, leb-true, leb-false}
-use Rattle.frame.specs.Answers.{answerNumber}
-use Rattle.frame.specs.declared.answer.Answer.{Answer}
+use Rattle.answers.specs.Answers.{answerNumber}
+use Rattle.answers.specs.declared.Answer.{Answer}
 use Rattle.walk.specs.Tally.{figuresOnly, largest, hasRoom, movedOn, capped, rowFigures}
 use Rattle.walk.specs.declared.tally.Tally.{Tally}
 

@@ -7,8 +7,8 @@ use native.Mathlib.Omega.{arith}
 use lib.Dec.{eqb, leb}
 use borrow.Author.Tests.{ne-eqb, eqb-true, le-leb, leb-true}
 use Rattle.digits.proofs.Bools.{and-left, and-right, and-both, no-false}
-use Rattle.frame.specs.Answers.{answerNumber}
-use Rattle.frame.specs.declared.answer.Answer.{Answer}
+use Rattle.answers.specs.Answers.{answerNumber}
+use Rattle.answers.specs.declared.Answer.{Answer}
 use Rattle.walk.specs.Walk.{Reading, Move, isWhole}
 use Rattle.walk.specs.Answers.{answering}
 use Rattle.walk.specs.Tally.{isSkipped, largest}

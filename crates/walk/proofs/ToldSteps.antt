@@ -7,8 +7,8 @@ use native.Mathlib.Omega.{arith}
 use lib.Dec.{eqb}
 use borrow.Author.Tests.{eq-eqb, ne-eqb, le-leb, lt-leb}
 use Rattle.digits.proofs.Bools.{no-false}
-use Rattle.frame.specs.Answers.{answerNumber}
-use Rattle.frame.specs.declared.answer.Answer.{Answer}
+use Rattle.answers.specs.Answers.{answerNumber}
+use Rattle.answers.specs.declared.Answer.{Answer}
 use Rattle.walk.specs.Walk.{isWhole}
 use Rattle.walk.specs.Tally.{isSkipped, largest}
 use Rattle.walk.specs.Told.{noRow, joinedRow, framedRow, holds, toldOf, toldNumber}

@@ -5,7 +5,7 @@ use mathlib.Core.Bool.{Bool, true, false, cond}
 use mathlib.Core.List.{List, [], _∷_, _++_}
 use lib.ListN.{drop}
 use lib.Dec.{eqb}
-use Rattle.frame.specs.declared.answer.Answer.{Answer}
+use Rattle.answers.specs.declared.Answer.{Answer}
 use Rattle.walk.specs.Walk.{Reading, walkFrom}
 use Rattle.walk.specs.Told.{nextOf}
 use Rattle.walk.specs.declared.rows.Row.{Row}

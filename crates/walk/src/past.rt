@@ -1,7 +1,7 @@
 // How far an answer moves a walk.
 ghost use mathlib.Core.Path.{_≡_};
 ghost use Rattle.walk.specs.Answers.{pastOf};
-use frame::answer::Answer;
+use answers::Answer;
 
 // The bytes that an answer moves past where bytes are left, or 0 where the walk stops.
 pub fn past(answer: Answer, closed: bool) -> usize

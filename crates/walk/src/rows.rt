@@ -3,7 +3,7 @@ ghost use mathlib.Core.Path.{_≡_};
 ghost use Prim.Native.Nat.{_+_, _≤_};
 ghost use Rattle.walk.specs.Tally.{largest};
 ghost use Rattle.walk.specs.Told.{noRow, fresh, joinedRow, framedRow, toldOf};
-use frame::answer::Answer;
+use answers::Answer;
 
 // A move of a walk, or skipped bytes next to each other with the first one's reason.
 pub struct Row {

@@ -2,7 +2,7 @@
 ghost use mathlib.Core.Path.{_≡_};
 ghost use Prim.Native.Nat.{_+_, min};
 ghost use Rattle.walk.specs.Tally.{figuresOnly, noBytes, hasRoom, movedOn, capped, rowFigures, largest};
-use frame::answer::Answer;
+use answers::Answer;
 
 pub struct Tally {
     // bytes in accepted frames

@@ -2,12 +2,12 @@
 use mathlib.Core.Path.{sym, ap, _∙_}
 use borrow.Author.Tests.{not-true, not-false}
 use lib.ListN.{drop}
-use Rattle.halts.specs.declared.HaltReading.{HaltReading}
-use Rattle.frames.specs.Reading.{haltAt}
+use Rattle.stock_halts.specs.declared.HaltReading.{HaltReading}
+use Rattle.stock_reading.specs.Reading.{haltAt}
 use Rattle.c_halts.specs.Halts.{haltNumbers}
-use Rattle.outcomes.specs.Outcomes.{readOutcome}
-use Rattle.outcomes.specs.Lent.{isOf}
-use Rattle.outcomes.proofs.LentLaws.{lent-filled, lent-kept}
+use Rattle.c_outcomes.specs.Outcomes.{readOutcome}
+use Rattle.c_outcomes.specs.Lent.{isOf}
+use Rattle.c_outcomes.proofs.LentLaws.{lent-filled, lent-kept}
 use borrow.Author.Needs.{needs}
 use Rattle.c_halts.proofs.trivsome_read_halt_numbers.Statement.{statement}
 use Rattle.c_halts.proofs.trivsome_read_halt_numbers.Tie as tie

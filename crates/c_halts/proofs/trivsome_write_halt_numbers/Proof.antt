@@ -2,12 +2,12 @@
 use mathlib.Core.Path.{sym, ap, _∙_}
 use mathlib.Core.Bool.{Bool, _&&_}
 use borrow.Author.Tests.{not-true, not-false}
-use Rattle.frame.specs.Codec.{legal, frameOf}
-use Rattle.frame.specs.Writing.{writeAnswer, writtenOver}
-use Rattle.halts.specs.Halts.{nineteenCodec}
-use Rattle.outcomes.specs.Outcomes.{writeOutcome}
+use Rattle.stock_frame.specs.Codec.{legal, frameOf}
+use Rattle.stock_frame.specs.Writing.{writeAnswer, writtenOver}
+use Rattle.stock_halts.specs.Halts.{nineteenCodec}
+use Rattle.c_outcomes.specs.Outcomes.{writeOutcome}
 use Rattle.c_halts.specs.Halts.{haltFrom}
-use Rattle.outcomes.proofs.WriteLaws.{same-answer, same-bytes}
+use Rattle.c_outcomes.proofs.WriteLaws.{same-answer, same-bytes}
 use borrow.Author.Needs.{needs}
 use Rattle.c_halts.proofs.trivsome_write_halt_numbers.Statement.{statement}
 use Rattle.c_halts.proofs.trivsome_write_halt_numbers.Tie as tie

@@ -3,11 +3,11 @@ use mathlib.Core.Path.{sym, ap, _∙_}
 use borrow.Author.Tests.{not-true, not-false}
 use native.Mathlib.Omega.{arith}
 use lib.ListN.{drop}
-use Rattle.notices.specs.declared.NoticeReading.{NoticeReading}
-use Rattle.frames.specs.Reading.{noticeAt}
-use Rattle.outcomes.specs.Outcomes.{readOutcome}
-use Rattle.outcomes.specs.Lent.{isOf}
-use Rattle.outcomes.proofs.LentLaws.{lent-filled, lent-kept}
+use Rattle.stock_notices.specs.declared.NoticeReading.{NoticeReading}
+use Rattle.stock_reading.specs.Reading.{noticeAt}
+use Rattle.c_outcomes.specs.Outcomes.{readOutcome}
+use Rattle.c_outcomes.specs.Lent.{isOf}
+use Rattle.c_outcomes.proofs.LentLaws.{lent-filled, lent-kept}
 use Rattle.c_notices.proofs.NoticeBytes.{text-within, text-bytes}
 use borrow.Author.Needs.{needs}
 use Rattle.c_notices.proofs.trivsome_read_notice_numbers.Statement.{statement}

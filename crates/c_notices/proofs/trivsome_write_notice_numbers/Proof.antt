@@ -1,9 +1,9 @@
 -- `trivsome_write_notice_numbers` meets its contract.
 use mathlib.Core.Path.{_≡_, ap, _∙_}
-use Rattle.frame.specs.Codec.{legal, frameOf}
-use Rattle.frame.specs.Writing.{writeAnswer}
-use Rattle.notices.specs.Notices.{fiveCodec, noticeFrom}
-use Rattle.outcomes.specs.Outcomes.{writeOutcome}
+use Rattle.stock_frame.specs.Codec.{legal, frameOf}
+use Rattle.stock_frame.specs.Writing.{writeAnswer}
+use Rattle.stock_notices.specs.Notices.{fiveCodec, noticeFrom}
+use Rattle.c_outcomes.specs.Outcomes.{writeOutcome}
 use borrow.Author.Needs.{needs}
 use Rattle.c_notices.proofs.trivsome_write_notice_numbers.Statement.{statement}
 use Rattle.c_notices.proofs.trivsome_write_notice_numbers.Tie as tie

@@ -2,12 +2,12 @@
 use mathlib.Core.Path.{sym, ap, _∙_}
 use borrow.Author.Tests.{not-true, not-false}
 use lib.ListN.{drop}
-use Rattle.prices.specs.declared.PricesReading.{PricesReading}
-use Rattle.frames.specs.Reading.{pricesAt}
+use Rattle.stock_prices.specs.declared.PricesReading.{PricesReading}
+use Rattle.stock_reading.specs.Reading.{pricesAt}
 use Rattle.c_prices.specs.Slots.{slotCodes, slotAmounts, slotTimes}
-use Rattle.outcomes.specs.Outcomes.{readOutcome}
-use Rattle.outcomes.specs.Lent.{isOf}
-use Rattle.outcomes.proofs.LentLaws.{lent-filled, lent-kept}
+use Rattle.c_outcomes.specs.Outcomes.{readOutcome}
+use Rattle.c_outcomes.specs.Lent.{isOf}
+use Rattle.c_outcomes.proofs.LentLaws.{lent-filled, lent-kept}
 use borrow.Author.Needs.{needs}
 use Rattle.c_prices.proofs.trivsome_read_prices_numbers.Statement.{statement}
 use Rattle.c_prices.proofs.trivsome_read_prices_numbers.Tie as tie

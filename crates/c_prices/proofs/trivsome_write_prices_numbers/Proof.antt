@@ -1,11 +1,11 @@
 -- `trivsome_write_prices_numbers` meets its contract.
 use mathlib.Core.Path.{ap, _∙_}
 use mathlib.Core.List.{List}
-use Rattle.prices.specs.Prices.{twelveCodec}
-use Rattle.prices.specs.declared.Slot.{Slot}
-use Rattle.prices.specs.declared.Prices.{Prices}
-use Rattle.outcomes.specs.Outcomes.{writeOutcome}
-use Rattle.outcomes.proofs.WriteLaws.{same-answer, same-bytes}
+use Rattle.stock_prices.specs.Prices.{twelveCodec}
+use Rattle.stock_prices.specs.declared.Slot.{Slot}
+use Rattle.stock_prices.specs.declared.Prices.{Prices}
+use Rattle.c_outcomes.specs.Outcomes.{writeOutcome}
+use Rattle.c_outcomes.proofs.WriteLaws.{same-answer, same-bytes}
 use borrow.Author.Needs.{needs}
 use Rattle.c_prices.proofs.trivsome_write_prices_numbers.Statement.{statement}
 use Rattle.c_prices.proofs.trivsome_write_prices_numbers.Tie as tie

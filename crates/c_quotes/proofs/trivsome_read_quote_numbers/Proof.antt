@@ -2,12 +2,12 @@
 use mathlib.Core.Path.{sym, ap, _∙_}
 use borrow.Author.Tests.{not-true, not-false}
 use lib.ListN.{drop}
-use Rattle.quotes.specs.declared.quote.QuoteReading.{QuoteReading}
-use Rattle.frames.specs.Reading.{quoteAt}
+use Rattle.stock_quotes.specs.declared.quote.QuoteReading.{QuoteReading}
+use Rattle.stock_reading.specs.Reading.{quoteAt}
 use Rattle.c_quotes.specs.Quotes.{quoteBytes, quoteAmounts}
-use Rattle.outcomes.specs.Outcomes.{readOutcome}
-use Rattle.outcomes.specs.Lent.{isOf}
-use Rattle.outcomes.proofs.LentLaws.{lent-filled, lent-kept}
+use Rattle.c_outcomes.specs.Outcomes.{readOutcome}
+use Rattle.c_outcomes.specs.Lent.{isOf}
+use Rattle.c_outcomes.proofs.LentLaws.{lent-filled, lent-kept}
 use borrow.Author.Needs.{needs}
 use Rattle.c_quotes.proofs.trivsome_read_quote_numbers.Statement.{statement}
 use Rattle.c_quotes.proofs.trivsome_read_quote_numbers.Tie as tie

@@ -1,8 +1,8 @@
 -- `trivsome_write_quote_numbers` meets its contract.
 use mathlib.Core.Path.{ap, _∙_}
-use Rattle.quotes.specs.Quotes.{sixCodec}
-use Rattle.outcomes.specs.Outcomes.{writeOutcome}
-use Rattle.outcomes.proofs.WriteLaws.{same-answer, same-bytes}
+use Rattle.stock_quotes.specs.Quotes.{sixCodec}
+use Rattle.c_outcomes.specs.Outcomes.{writeOutcome}
+use Rattle.c_outcomes.proofs.WriteLaws.{same-answer, same-bytes}
 use borrow.Author.Needs.{needs}
 use Rattle.c_quotes.proofs.trivsome_write_quote_numbers.Statement.{statement}
 use Rattle.c_quotes.proofs.trivsome_write_quote_numbers.Tie as tie

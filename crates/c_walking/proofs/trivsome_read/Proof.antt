@@ -1,6 +1,6 @@
 -- `trivsome_read` meets its contract.
 use mathlib.Core.Path.{ap, _∙_}
-use Rattle.outcomes.specs.Outcomes.{readOutcome}
+use Rattle.c_outcomes.specs.Outcomes.{readOutcome}
 use borrow.Author.Needs.{needs}
 use Rattle.c_walking.proofs.trivsome_read.Statement.{statement}
 use Rattle.c_walking.proofs.trivsome_read.Tie as tie

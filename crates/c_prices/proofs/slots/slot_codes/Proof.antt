@@ -6,9 +6,9 @@ use native.Mathlib.Omega.{arith}
 use borrow.Author.Needs.{needs}
 use lib.ListN.{length, getD, drop, replicate}
 use lib.Seq.{sets, length-sets}
-use Rattle.prices.proofs.Shapes.{someSlot, codes-long}
+use Rattle.stock_prices.proofs.Shapes.{someSlot, codes-long}
 use Rattle.c_prices.specs.Slots.{spread, codeIn}
-use Rattle.outcomes.proofs.ListLaws.{bytes-in}
+use Rattle.c_outcomes.proofs.ListLaws.{bytes-in}
 use Rattle.c_prices.proofs.SlotLaws.{spread-turn, spread-done, sets-all}
 use Rattle.c_prices.proofs.SlotLaws.{codes-all, code-wide}
 use Rattle.c_prices.proofs.slots.slot_codes.Statement.{statement}

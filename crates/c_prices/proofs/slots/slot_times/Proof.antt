@@ -1,9 +1,9 @@
 -- `slots::slot_times` meets its contract.
 use mathlib.Core.Path.{ap}
 use mathlib.Core.List.{map}
-use Rattle.prices.specs.declared.Slot.{Slot}
-use Rattle.prices.proofs.Shapes.{someSlot, codes-long}
-use Rattle.outcomes.proofs.ListLaws.{listed-all}
+use Rattle.stock_prices.specs.declared.Slot.{Slot}
+use Rattle.stock_prices.proofs.Shapes.{someSlot, codes-long}
+use Rattle.c_outcomes.proofs.ListLaws.{listed-all}
 use borrow.Author.Needs.{needs}
 use Rattle.c_prices.proofs.slots.slot_times.Statement.{statement}
 use Rattle.c_prices.proofs.slots.slot_times.Tie as tie

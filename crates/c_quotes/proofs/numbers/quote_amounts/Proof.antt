@@ -2,10 +2,10 @@
 use mathlib.Core.Path.{_≡_, ap₂}
 use mathlib.Core.List.{List, _∷_, _++_}
 use lib.ListN.{length}
-use Rattle.digits.specs.declared.amounts.Pair.{Pair}
-use Rattle.quotes.specs.Quotes.{noPair, flat}
-use Rattle.quotes.proofs.LegalLaws.{length-mapped}
-use Rattle.outcomes.proofs.ListLaws.{listed-all}
+use Rattle.amounts.specs.declared.Pair.{Pair}
+use Rattle.stock_quotes.specs.Quotes.{noPair, flat}
+use Rattle.stock_quotes.proofs.LegalLaws.{length-mapped}
+use Rattle.c_outcomes.proofs.ListLaws.{listed-all}
 use borrow.Author.Needs.{needs}
 use Rattle.c_quotes.proofs.numbers.quote_amounts.Statement.{statement}
 use Rattle.c_quotes.proofs.numbers.quote_amounts.Tie as tie

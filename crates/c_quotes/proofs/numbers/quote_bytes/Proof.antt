@@ -3,7 +3,7 @@ use Prim.Native.Nat.{ℕ}
 use mathlib.Core.Path.{_≡_, ap}
 use mathlib.Core.List.{List, [], _∷_, _++_}
 use lib.ListN.{length}
-use Rattle.outcomes.proofs.ListLaws.{listed-all}
+use Rattle.c_outcomes.proofs.ListLaws.{listed-all}
 use borrow.Author.Needs.{needs}
 use Rattle.c_quotes.proofs.numbers.quote_bytes.Statement.{statement}
 use Rattle.c_quotes.proofs.numbers.quote_bytes.Tie as tie

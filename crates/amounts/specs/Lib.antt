@@ -1,0 +1,2 @@
+-- Prices and quantities: definitions that the contracts cite.
+pub mod Amounts

@@ -1,0 +1,2 @@
+-- The laws that the proofs cite, and the theorems that belong to no one function.
+pub mod Determined

@@ -1,0 +1,58 @@
+// An answer and the figures beside it in one number of 64 bits, for programs in other languages.
+ghost use mathlib.Core.Path.{_≡_};
+ghost use Rattle.c_outcomes.specs.Outcomes.{outcome, readOutcome, pastOutcome, writeOutcome};
+ghost use Rattle.c_outcomes.specs.Lent.{isOf};
+use answers::Answer;
+use answers::Written;
+
+// The answer in 8 bits, then the format in 8, the length in 16 and the sequence number in 32.
+fn packed(answer: u8, format: u8, length: usize, seq: u32) -> u64
+    ensures { λ r. ⌜ r ≡ outcome answer format length seq ⌝ }
+{
+    let high = 65536 * ((length % 65536) as u64) + 4294967296 * (seq as u64);
+    (answer as u64) + (256 * (format as u64) + high)
+}
+
+// Of a reading.
+pub fn of_answer(answer: Answer) -> u64
+    ensures { λ r. ⌜ r ≡ readOutcome answer ⌝ }
+{
+    match answer {
+        Answer::Accepted(f) => packed(0, f.format, f.length, f.seq),
+        Answer::NoFrame(n) => packed(n, 0, 0, 0),
+        Answer::Refused(n, length) => packed(n, 0, length, 0),
+    }
+}
+
+// Of a move past so many bytes.
+pub fn of_move(answer: Answer, bytes: u64) -> u64
+    ensures { λ r. ⌜ r ≡ pastOutcome answer bytes ⌝ }
+{
+    match answer {
+        Answer::Accepted(f) => packed(0, f.format, bytes as usize, f.seq),
+        Answer::NoFrame(n) => packed(n, 0, bytes as usize, 0),
+        Answer::Refused(n, _) => packed(n, 0, bytes as usize, 0),
+    }
+}
+
+// Of a writing.
+pub fn of_written(written: Written) -> u64
+    ensures { λ r. ⌜ r ≡ writeOutcome written ⌝ }
+{
+    match written {
+        Written::Done(length) => packed(0, 0, length, 0),
+        Written::Illegal => packed(14, 0, 0, 0),
+        Written::NoRoom => packed(15, 0, 0, 0),
+    }
+}
+
+// Whether a frame of this format is accepted, so that memory lent for its message is filled.
+pub fn is_of(answer: Answer, format: u8) -> bool
+    ensures { λ r. ⌜ r ≡ isOf format answer ⌝ }
+{
+    match answer {
+        Answer::Accepted(f) => f.format == format,
+        Answer::NoFrame(_) => false,
+        Answer::Refused(_, _) => false,
+    }
+}

@@ -1,0 +1,2 @@
+-- Codes and times: definitions that the contracts cite.
+pub mod Times

@@ -1,9 +1,0 @@
-pub mod Cells
-pub mod Rows
-pub mod Bytes
-pub mod Answers
-pub mod Outline
-pub mod Format
-pub mod Writing
-pub mod Codec
-pub mod Times

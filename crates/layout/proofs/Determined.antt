@@ -1,0 +1,16 @@
+-- The public contracts leave no choice: any two results that they allow are equal.
+use mathlib.Core.Path.{_≡_, sym, _∙_}
+use contract.Lifetimes
+use borrow.Fn.World
+use borrow.Fn.Kinds as kinds
+use denote.Triple.Clauses
+use denote.Ref.{now}
+use Rattle.layout.proofs.put_bytes as put
+use Rattle.layout.proofs.put_bytes.Kinds as pown
+use Rattle.layout.proofs.put_bytes.Reads as preads
+
+-- the buffer after `put_bytes`
+pub determined-put-bytes : (κs : Lifetimes.Lfts 2) (a : World.ArgsD put.signature κs) (r₁ r₂ : World.ResD put.signature κs)
+    (s₁ s₂ : Clauses.AtExit (kinds.endedOf 2 pown.ps pown.r) κs) → preads.Post κs a r₁ s₁ → preads.Post κs a r₂ s₂
+    → now (s₁ .1 .0) ≡ now (s₂ .1 .0)
+determined-put-bytes κs a r₁ r₂ s₁ s₂ p q = p ∙ sym q

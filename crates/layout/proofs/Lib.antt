@@ -1,0 +1,8 @@
+-- The laws that the proofs cite, and the theorems that belong to no one function.
+pub mod CellLaws
+pub mod AppendLaws
+pub mod RowLaws
+pub mod WholeLaws
+pub mod RawLaws
+pub mod PutLaws
+pub mod Determined

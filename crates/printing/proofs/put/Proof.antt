@@ -1,0 +1,23 @@
+-- `text::put` meets its contract.
+use borrow.Author.Needs.{needs}
+use Rattle.printing.proofs.TextLaws.{puts-byte, puts-no-byte}
+use Rattle.printing.proofs.put.Statement.{statement}
+use Rattle.printing.proofs.put.Tie as tie
+
+slice-write-out : tie.Need-slice-write-out
+slice-write-out c = search needs
+
+add-result : tie.Need-add-result
+add-result c = search needs
+
+same-length : tie.Need-same-length
+same-length c = search needs
+
+returns : tie.Need-returns
+returns c = let a = c .before .args in puts-byte (a .b) (a .at) (a .out .now) (c .if1 .taken)
+
+returns-2 : tie.Need-returns-2
+returns-2 c = let a = c .before .args in puts-no-byte (a .b) (a .at) (a .out .now) (c .if1 .left)
+
+pub put-spec : {M : Type 1} → statement M
+put-spec = tie.close (tie.spec slice-write-out add-result same-length returns returns-2)

@@ -1,0 +1,25 @@
+-- `pieces::closed` is safe: it hears a part of the buffer.
+use mathlib.Core.Path.{sym}
+use lib.Seq.{length-take-le}
+use borrow.Author.Needs.{needs}
+use Rattle.program_gaps.proofs.pieces.closed.Statement.{statement}
+use Rattle.program_gaps.proofs.pieces.closed.Tie as tie
+
+failed-requires : tie.Need-failed-requires
+failed-requires c κs = search needs
+
+returns : tie.Need-returns
+returns c = search needs
+
+slice-aggregate-heard : tie.Need-slice-aggregate-heard
+slice-aggregate-heard c = let a = c .before .before .before .args in sym (length-take-le (a .end) (a .buf .now) (c .before .if1 .left))
+
+heard-requires : tie.Need-heard-requires
+heard-requires c κs = search needs
+
+returns-2 : tie.Need-returns-2
+returns-2 c = search needs
+
+pub closed-spec : {M : Type 1} → statement M
+closed-spec =
+    tie.close (tie.spec failed-requires returns slice-aggregate-heard heard-requires returns-2)

@@ -1,0 +1,43 @@
+-- `pieces::with_piece` is safe: it hears a part of the buffer.
+use mathlib.Core.Path.{sym}
+use lib.Seq.{length-take-le}
+use borrow.Author.Needs.{needs}
+use Rattle.program_gaps.proofs.pieces.with_piece.Statement.{statement}
+use Rattle.program_gaps.proofs.pieces.with_piece.Tie as tie
+
+failed-requires : tie.Need-failed-requires
+failed-requires c κs = search needs
+
+returns : tie.Need-returns
+returns c = search needs
+
+slice-reshare-prefix-heard : tie.Need-slice-reshare-prefix-heard
+slice-reshare-prefix-heard c = search needs
+
+slice-aggregate-heard : tie.Need-slice-aggregate-heard
+slice-aggregate-heard c = let a = c .before .before .before .args in sym (length-take-le (a .end) (a .buf .now) (c .before .if1 .left))
+
+heard-requires : tie.Need-heard-requires
+heard-requires c κs = search needs
+
+move-down-requires : tie.Need-move-down-requires
+move-down-requires c κs = search needs
+
+same-length : tie.Need-same-length
+same-length c = search needs
+
+returns-2 : tie.Need-returns-2
+returns-2 c = search needs
+
+pub with-piece-spec : {M : Type 1} → statement M
+with-piece-spec =
+    tie.close
+    (tie.spec
+    failed-requires
+    returns
+    slice-reshare-prefix-heard
+    slice-aggregate-heard
+    heard-requires
+    move-down-requires
+    same-length
+    returns-2)

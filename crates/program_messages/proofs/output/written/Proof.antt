@@ -1,0 +1,25 @@
+-- `output::written` is safe: it writes a part of the buffer.
+use mathlib.Core.Path.{sym}
+use lib.Seq.{length-take-le}
+use borrow.Author.Needs.{needs}
+use Rattle.program_messages.proofs.output.written.Statement.{statement}
+use Rattle.program_messages.proofs.output.written.Tie as tie
+
+slice-aggregate-write-all : tie.Need-slice-aggregate-write-all
+slice-aggregate-write-all c = let a = c .before .before .before .args in sym (length-take-le (a .s .to) (a .out .now) (c .before .if1 .taken))
+
+write-all-requires : tie.Need-write-all-requires
+write-all-requires c κs = search needs
+
+returns : tie.Need-returns
+returns c = search needs
+
+returns-2 : tie.Need-returns-2
+returns-2 c = search needs
+
+returns-3 : tie.Need-returns-3
+returns-3 c = search needs
+
+pub written-spec : {M : Type 1} → statement M
+written-spec =
+    tie.close (tie.spec slice-aggregate-write-all write-all-requires returns returns-2 returns-3)

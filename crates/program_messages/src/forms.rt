@@ -1,0 +1,135 @@
+// Keys and values of an object put into a lent buffer. Each function answers the place behind what it put.
+use amounts::Price;
+use printing::put;
+use printing::put_all;
+use printing::put_number;
+
+// All nines in the place of a time with a fraction.
+const NINES: u64 = 999_999_999_999;
+
+// A key that is not the first of its object.
+pub(crate) fn put_key(out: &mut [u8], at: usize, name: &[u8]) -> usize {
+    let at = put_all(out, at, b",\"");
+    let at = put_all(out, at, name);
+    put_all(out, at, b"\":")
+}
+
+// A key and a number.
+pub(crate) fn put_count(out: &mut [u8], at: usize, name: &[u8], n: u64) -> usize {
+    let at = put_key(out, at, name);
+    put_number(out, at, n)
+}
+
+pub(crate) fn put_null(out: &mut [u8], at: usize) -> usize {
+    put_all(out, at, b"null")
+}
+
+// The last two digits of a number.
+pub(crate) fn put_two(out: &mut [u8], at: usize, n: u64) -> usize {
+    let tens = (n / 10 % 10) as u8;
+    let ones = (n % 10) as u8;
+    let at = put(out, at, 48 + tens);
+    put(out, at, 48 + ones)
+}
+
+// HHMMSS, without quotation marks.
+fn put_hours(out: &mut [u8], at: usize, t: u64) -> usize {
+    let at = put_two(out, at, t / 10000);
+    let at = put(out, at, b':');
+    let at = put_two(out, at, t / 100);
+    let at = put(out, at, b':');
+    put_two(out, at, t)
+}
+
+// HHMMSS.
+pub(crate) fn put_clock(out: &mut [u8], at: usize, t: u64) -> usize {
+    let at = put(out, at, b'"');
+    let at = put_hours(out, at, t);
+    put(out, at, b'"')
+}
+
+// HHMMSS and six digits of fraction, or that there is no time.
+pub(crate) fn put_time(out: &mut [u8], at: usize, t: u64) -> usize {
+    if t == NINES {
+        return put_null(out, at);
+    }
+    let at = put(out, at, b'"');
+    let at = put_hours(out, at, t / 1_000_000);
+    let at = put(out, at, b'.');
+    let at = put_two(out, at, t / 10000);
+    let at = put_two(out, at, t / 100);
+    let at = put_two(out, at, t);
+    put(out, at, b'"')
+}
+
+// Ten-thousandths, with all four decimals.
+pub(crate) fn put_price(out: &mut [u8], at: usize, p: Price) -> usize {
+    let n = p.0 as u64;
+    let at = put(out, at, b'"');
+    let at = put_number(out, at, n / 10000);
+    let at = put(out, at, b'.');
+    let at = put_two(out, at, n / 100);
+    let at = put_two(out, at, n);
+    put(out, at, b'"')
+}
+
+// A byte of a string that is 32 to 126.
+fn put_letter(out: &mut [u8], at: usize, b: u8) -> usize {
+    if b == b'"' {
+        return put_all(out, at, b"\\\"");
+    }
+    if b == b'\\' {
+        return put_all(out, at, b"\\\\");
+    }
+    put(out, at, b)
+}
+
+fn put_letters(out: &mut [u8], at: usize, text: &[u8]) -> usize {
+    let mut to = at;
+    let mut i = 0;
+    while i < text.len() {
+        to = put_letter(out, to, text[i]);
+        i += 1;
+    }
+    to
+}
+
+// A code, its spaces too.
+pub(crate) fn put_code(out: &mut [u8], at: usize, code: [u8; 6]) -> usize {
+    let at = put(out, at, b'"');
+    let at = put_letters(out, at, &code);
+    put(out, at, b'"')
+}
+
+fn glyph(d: u8) -> u8 {
+    if d < 10 {
+        return 48 + d;
+    }
+    if d < 16 {
+        return 87 + d;
+    }
+    b'?'
+}
+
+// A byte as two digits to the base sixteen.
+fn put_byte(out: &mut [u8], at: usize, b: u8) -> usize {
+    let at = put(out, at, glyph(b / 16));
+    put(out, at, glyph(b % 16))
+}
+
+fn put_bytes(out: &mut [u8], at: usize, text: &[u8]) -> usize {
+    let mut to = at;
+    let mut i = 0;
+    while i < text.len() {
+        to = put_byte(out, to, text[i]);
+        i += 1;
+    }
+    to
+}
+
+// Bytes that may be any.
+pub(crate) fn put_hex(out: &mut [u8], at: usize, text: &[u8]) -> usize {
+    let at = put(out, at, b'"');
+    let at = put_bytes(out, at, text);
+    put(out, at, b'"')
+}

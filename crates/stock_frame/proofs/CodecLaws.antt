@@ -1,0 +1,185 @@
+-- Both round trips, once for every format: reading a written frame gives the message, writing a read message gives the bytes.
+use Prim.Native.Nat.{ℕ, _+_, _^_, _≤_, _<_}
+use mathlib.Core.Path.{_≡_, sym, ap, _∙_, subst}
+use mathlib.Core.Bool.{Bool, true, _&&_}
+use mathlib.Core.List.{List, [], _∷_, _++_}
+use native.Mathlib.Omega.{arith}
+use lib.ListN.{length, drop, length-drop}
+use lib.Dec.{leb, ltb}
+use borrow.Author.Tests.{ltb-true, lt-ltb, leb-true}
+use Rattle.digits.proofs.Bools.{and-left, and-right, and-both}
+use Rattle.layout.specs.Cells.{Cell, size, fits, encode}
+use Rattle.stock_frame.specs.Outline.{own, body, business, format, version, number, kindValues, kindCells}
+use Rattle.stock_frame.specs.Format.{valuesOf, ranged, around}
+use Rattle.stock_frame.specs.Writing.{frameAround, frameBytes}
+use Rattle.stock_frame.specs.Codec.{Codec, legal, frameOf}
+use Rattle.layout.proofs.CellLaws.{length-encode, fits-decode}
+use Rattle.stock_frame.proofs.OutlineLaws.{Outlined, length-frame, body-frame, kind-frame, own-frame, outlined-frame, own-frameAround, length-own, least-length}
+use Rattle.stock_frame.proofs.FormatLaws.{Bodied, values-encode, bodied-encode, encode-values, fits-values, size-body}
+
+-- the bytes t begin with a frame of the codec's format that passes every row, and m is its message
+pub record Reads {M : Type 0} (C : Codec M) (t : List ℕ) (m : M) : Type 0 where
+  pub outlined : Outlined t
+  pub is-business : business (own t) ≡ 1
+  pub is-format : format (own t) ≡ C .form .number
+  pub is-version : version (own t) ≡ C .form .version
+  pub bodied : Bodied (C .form) (body (own t))
+  pub meant : m ≡ C .message (number (own t)) (valuesOf (C .form) (body (own t)))
+
+-- what a format has to show: a message that has its shape and the numbers that it stands for tell each other
+pub record Lawful {M : Type 0} (C : Codec M) (Shaped : M → Type 0) : Type 0 where
+  pub low : 14 ≤ C .form .least
+  pub high : C .form .most ≤ 1024
+  pub number-fits : C .form .number < 100
+  pub version-fits : C .form .version < 100
+  pub cells-told : (m : M) → Shaped m → fits (C .cells m) (C .values m) ≡ true → C .form .cells (encode (C .cells m) (C .values m)) ≡ C .cells m
+  pub message-values : (m : M) → Shaped m → legal C m ≡ true → C .message (C .seq m) (C .values m) ≡ m
+  pub seq-message : (n : ℕ) (vs : List ℕ) → C .seq (C .message n vs) ≡ n
+  pub cells-message : (n : ℕ) (b : List ℕ) → Bodied (C .form) b → C .cells (C .message n (valuesOf (C .form) b)) ≡ C .form .cells b
+  pub values-message : (n : ℕ) (b : List ℕ) → Bodied (C .form) b → C .values (C .message n (valuesOf (C .form) b)) ≡ valuesOf (C .form) b
+  pub tidy-message : (n : ℕ) (b : List ℕ) → Bodied (C .form) b → C .tidy (C .message n (valuesOf (C .form) b)) ≡ true
+  pub shaped-message : (n : ℕ) (b : List ℕ) → Bodied (C .form) b → Shaped (C .message n (valuesOf (C .form) b))
+
+-- ---- what legal says, by name
+module _ {M : Type 0} (C : Codec M) (m : M) (l : legal C m ≡ true) where
+  abbrev after-seq : Bool
+  after-seq = ranged (C .form) (size (C .cells m)) && (C .form .levels (C .values m) && (fits (C .cells m) (C .values m) && (C .form .timed (C .values m) && (C .form .ruled (C .values m) && C .tidy m))))
+
+  l1 : after-seq ≡ true
+  l1 = and-right (ltb (C .seq m) (10 ^ 8)) _ l
+
+  l2 : (C .form .levels (C .values m) && (fits (C .cells m) (C .values m) && (C .form .timed (C .values m) && (C .form .ruled (C .values m) && C .tidy m)))) ≡ true
+  l2 = and-right (ranged (C .form) (size (C .cells m))) _ l1
+
+  l3 : (fits (C .cells m) (C .values m) && (C .form .timed (C .values m) && (C .form .ruled (C .values m) && C .tidy m))) ≡ true
+  l3 = and-right (C .form .levels (C .values m)) _ l2
+
+  l4 : (C .form .timed (C .values m) && (C .form .ruled (C .values m) && C .tidy m)) ≡ true
+  l4 = and-right (fits (C .cells m) (C .values m)) _ l3
+
+  l5 : (C .form .ruled (C .values m) && C .tidy m) ≡ true
+  l5 = and-right (C .form .timed (C .values m)) _ l4
+
+  pub legal-seq : C .seq m < 10 ^ 8
+  legal-seq = ltb-true (C .seq m) (10 ^ 8) (and-left _ _ l)
+
+  pub legal-range : ranged (C .form) (size (C .cells m)) ≡ true
+  legal-range = and-left _ _ l1
+
+  pub legal-levels : C .form .levels (C .values m) ≡ true
+  legal-levels = and-left _ _ l2
+
+  pub legal-fits : fits (C .cells m) (C .values m) ≡ true
+  legal-fits = and-left _ _ l3
+
+  pub legal-timed : C .form .timed (C .values m) ≡ true
+  legal-timed = and-left _ _ l4
+
+  pub legal-ruled : C .form .ruled (C .values m) ≡ true
+  legal-ruled = and-left _ _ l5
+
+  pub legal-tidy : C .tidy m ≡ true
+  legal-tidy = and-right (C .form .ruled (C .values m)) _ l5
+
+-- ---- reading a written frame gives the message, whatever follows the frame
+module _ {M : Type 0} (C : Codec M) (Shaped : M → Type 0) (law : Lawful C Shaped) where
+  module _ (m : M) (s : Shaped m) (l : legal C m ≡ true) where
+    range-low : C .form .least ≤ around + size (C .cells m)
+    range-low = leb-true (C .form .least) (around + size (C .cells m)) (and-left _ _ (legal-range C m l))
+
+    range-high : around + size (C .cells m) ≤ C .form .most
+    range-high = leb-true (around + size (C .cells m)) (C .form .most) (and-right (leb (C .form .least) (around + size (C .cells m))) _ (legal-range C m l))
+
+    pub length-frameOf : length (frameOf C m) ≡ around + size (C .cells m)
+    length-frameOf =
+        length-frame (C .form .number) (C .form .version) (C .seq m) (encode (C .cells m) (C .values m)) (law .number-fits) (law .version-fits) (legal-seq C m l)
+        ∙ ap (λ (n : ℕ). around + n) (length-encode (C .cells m) (C .values m) (legal-fits C m l))
+
+    module _ (r : List ℕ) where
+      low-body : 1 ≤ length (encode (C .cells m) (C .values m))
+      low-body = omega (arith, law .low, range-low, length-encode (C .cells m) (C .values m) (legal-fits C m l))
+
+      high-body : around + length (encode (C .cells m) (C .values m)) ≤ 1024
+      high-body = omega (arith, law .high, range-high, length-encode (C .cells m) (C .values m) (legal-fits C m l))
+
+      pub own-frameOf : own (frameOf C m ++ r) ≡ frameOf C m
+      own-frameOf =
+          own-frame (C .form .number) (C .form .version) (C .seq m) (encode (C .cells m) (C .values m)) (law .number-fits) (law .version-fits) (legal-seq C m l)
+          low-body high-body r
+
+      kinds-read : kindValues (own (frameOf C m ++ r)) ≡ 1 ∷ C .form .number ∷ C .form .version ∷ C .seq m ∷ []
+      kinds-read =
+          ap kindValues own-frameOf
+          ∙ kind-frame (C .form .number) (C .form .version) (C .seq m) (encode (C .cells m) (C .values m)) (law .number-fits) (law .version-fits) (legal-seq C m l)
+
+      body-read : body (own (frameOf C m ++ r)) ≡ encode (C .cells m) (C .values m)
+      body-read =
+          ap body own-frameOf
+          ∙ body-frame (C .form .number) (C .form .version) (C .seq m) (encode (C .cells m) (C .values m)) (law .number-fits) (law .version-fits) (legal-seq C m l)
+
+      pub read-written : Reads C (frameOf C m ++ r) m
+      read-written = record {
+        outlined =
+            outlined-frame (C .form .number) (C .form .version) (C .seq m) (encode (C .cells m) (C .values m)) (law .number-fits) (law .version-fits) (legal-seq C m l)
+            low-body high-body r;
+        is-business = ap (λ (k : List ℕ). lib.ListN.getD k 0 0) kinds-read;
+        is-format = ap (λ (k : List ℕ). lib.ListN.getD k 1 0) kinds-read;
+        is-version = ap (λ (k : List ℕ). lib.ListN.getD k 2 0) kinds-read;
+        bodied =
+            subst (Bodied (C .form)) (sym body-read)
+            (bodied-encode (C .form) (C .cells m) (C .values m) (legal-fits C m l) (law .cells-told m s (legal-fits C m l))
+            (legal-range C m l) (legal-levels C m l) (legal-timed C m l) (legal-ruled C m l));
+        meant =
+            sym (ap (λ (k : List ℕ). C .message (lib.ListN.getD k 3 0) (valuesOf (C .form) (body (own (frameOf C m ++ r))))) kinds-read
+            ∙ ap (λ (b : List ℕ). C .message (C .seq m) (valuesOf (C .form) b)) body-read
+            ∙ ap (C .message (C .seq m)) (values-encode (C .form) (C .cells m) (C .values m) (legal-fits C m l) (law .cells-told m s (legal-fits C m l)))
+            ∙ law .message-values m s l);
+      }
+
+  -- ---- writing a read message gives the bytes
+  module _ (t : List ℕ) (m : M) (rd : Reads C t m) where
+    abbrev n : ℕ
+    n = number (own t)
+
+    abbrev b : List ℕ
+    b = body (own t)
+
+    same-cells : C .cells m ≡ C .form .cells b
+    same-cells = ap (C .cells) (rd .meant) ∙ law .cells-message n b (rd .bodied)
+
+    same-values : C .values m ≡ valuesOf (C .form) b
+    same-values = ap (C .values) (rd .meant) ∙ law .values-message n b (rd .bodied)
+
+    same-seq : C .seq m ≡ n
+    same-seq = ap (C .seq) (rd .meant) ∙ law .seq-message n (valuesOf (C .form) b)
+
+    seq-lt : n < 10 ^ 8
+    seq-lt =
+        let f : fits kindCells (kindValues (own t)) ≡ true =
+        fits-decode kindCells (drop 3 (own t)) (rw length-drop (omega (arith, length-own t (rd .outlined), least-length t (rd .outlined))))
+        (rd .outlined .packed-head) in
+        ltb-true n (10 ^ 8) (and-left _ _
+        (and-right (ltb (version (own t)) 100) _ (and-right (ltb (format (own t)) 100) _ (and-right (ltb (business (own t)) 100) _ f))))
+
+    pub shaped-read : Shaped m
+    shaped-read = subst Shaped (sym (rd .meant)) (law .shaped-message n b (rd .bodied))
+
+    pub legal-read : legal C m ≡ true
+    legal-read =
+        and-both (ap (λ (x : ℕ). ltb x (10 ^ 8)) same-seq ∙ lt-ltb n (10 ^ 8) seq-lt)
+        (and-both (ap (λ (x : List Cell). ranged (C .form) (size x)) same-cells ∙ ap (ranged (C .form)) (size-body (C .form) b (rd .bodied)) ∙ rd .bodied .within-range)
+        (and-both (ap (C .form .levels) same-values ∙ rd .bodied .levelled)
+        (and-both (ap (λ (x : List Cell). fits x (C .values m)) same-cells ∙ ap (fits (C .form .cells b)) same-values ∙ fits-values (C .form) b (rd .bodied))
+        (and-both (ap (C .form .timed) same-values ∙ rd .bodied .good-times)
+        (and-both (ap (C .form .ruled) same-values ∙ rd .bodied .good-fields)
+        (ap (C .tidy) (rd .meant) ∙ law .tidy-message n b (rd .bodied)))))))
+
+    pub written-read : frameOf C m ≡ own t
+    written-read =
+        ap (λ (x : List Cell). frameBytes (C .form) (C .seq m) x (C .values m)) same-cells
+        ∙ ap (λ (x : List ℕ). frameBytes (C .form) (C .seq m) (C .form .cells b) x) same-values
+        ∙ ap (λ (x : ℕ). frameBytes (C .form) x (C .form .cells b) (valuesOf (C .form) b)) same-seq
+        ∙ ap (frameAround (C .form .number) (C .form .version) n) (encode-values (C .form) b (rd .bodied))
+        ∙ ap (λ (x : ℕ). frameAround x (C .form .version) n b) (sym (rd .is-format))
+        ∙ ap (λ (x : ℕ). frameAround (format (own t)) x n b) (sym (rd .is-version))
+        ∙ sym (own-frameAround t (rd .outlined) (rd .is-business))

@@ -1,0 +1,11 @@
+-- The laws that the proofs cite, and the theorems that belong to no one function.
+pub mod OutlineLaws
+pub mod FormatLaws
+pub mod CodecLaws
+pub mod CloseLaws
+pub mod LengthSteps
+pub mod OutlineSteps
+pub mod PartLaws
+pub mod BodyRowLaws
+pub mod MessageLaws
+pub mod Determined

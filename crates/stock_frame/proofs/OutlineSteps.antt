@@ -1,0 +1,322 @@
+-- The outline row by row: what each row that fails answers, and what the header's digits tell.
+use Prim.Native.Nat.{ℕ, _+_, _-_, _*_, _%_, _≤_, _<_}
+use mathlib.Core.Path.{_≡_, refl, sym, ap, ap₂, _∙_}
+use mathlib.Core.Bool.{Bool, true, false, cond, _&&_}
+use mathlib.Core.List.{List, [], _∷_}
+use native.Mathlib.Omega.{arith}
+use lib.ListN.{length, getD, take, drop, length-drop}
+use lib.Seq.{drop-cons, take-length, take-take, getD-take, getD-drop, length-take-le}
+use lib.Dec.{eqb, leb}
+use borrow.Author.Tests.{eq-eqb, ne-eqb, le-leb, lt-leb, leb-true}
+use Rattle.digits.specs.Packed.{goodByte, good, two, value, goodField}
+use Rattle.words.specs.Blocks.{blockOf, noBlock, blockAt}
+use Rattle.words.specs.declared.blocks.Block.{Block}
+use Rattle.digits.proofs.Bools.{and-left, and-right, and-both}
+use Rattle.digits.proofs.PackedLaws.{two-lt}
+use Rattle.layout.specs.Cells.{goodCells, decode}
+use Rattle.layout.specs.Rows.{Row, must, firstFail}
+use Rattle.answers.specs.Answers.{named}
+use Rattle.words.specs.Check.{xorOf}
+use Rattle.stock_frame.specs.Outline.{lengthBytes, lengthOf, own, inner, kindCells, checkByte, ended, lengthRight, outlineRows, headOf, outlineOf}
+use Rattle.answers.specs.declared.Answer.the-variants.{NoFrame, Refused}
+use Rattle.stock_frame.specs.declared.head.Outline.the-variants.{Whole, Not}
+use Rattle.stock_frame.proofs.OutlineLaws.{length-bytes-taken}
+use Rattle.layout.proofs.WholeLaws.{good-wholes}
+use Rattle.stock_frame.proofs.LengthSteps.{lengthIn}
+
+-- ---- the first row that fails answers
+module _ (t : List ℕ) where
+  pub answered : (k : ℕ) → firstFail (outlineRows t) ≡ k
+      → cond (eqb k 0) (Whole (headOf (own t))) (Not (named k (record { format = 0; seq = 0; length = lengthOf t }))) ≡ outlineOf t
+  unfolding outlineOf
+  answered k e = ap (λ (n : ℕ). cond (eqb n 0) (Whole (headOf (own t))) (Not (named n (record { format = 0; seq = 0; length = lengthOf t })))) (sym e)
+
+  pub row-none : length t < 1 → Not (NoFrame 2) ≡ outlineOf t
+  row-none h = answered 2 (rw (lt-leb 1 (length t) h))
+
+  module _ (some : 1 ≤ length t) where
+    pub row-first : (getD t 0 0 ≡ 27 → ⊥) → Not (NoFrame 1) ≡ outlineOf t
+    row-first h = answered 1 (rw (le-leb 1 (length t) some, ne-eqb (getD t 0 0) 27 h))
+
+    module _ (starts : getD t 0 0 ≡ 27) where
+      pub row-three : length t < 3 → Not (NoFrame 2) ≡ outlineOf t
+      row-three h = answered 2 (rw (le-leb 1 (length t) some, eq-eqb (getD t 0 0) 27 starts, lt-leb 3 (length t) h))
+
+      module _ (three : 3 ≤ length t) where
+        passed : firstFail (outlineRows t) ≡ firstFail (drop 3 (outlineRows t))
+        passed = rw (le-leb 1 (length t) some, eq-eqb (getD t 0 0) 27 starts, le-leb 3 (length t) three)
+
+        pub row-length : lengthRight t ≡ false → Not (NoFrame 3) ≡ outlineOf t
+        row-length h = answered 3 (passed ∙ rw h)
+
+        module _ (right : lengthRight t ≡ true) where
+          pub row-whole : length t < lengthOf t → Not (NoFrame 2) ≡ outlineOf t
+          row-whole h = answered 2 (passed ∙ rw (right, lt-leb (lengthOf t) (length t) h))
+
+          module _ (whole : lengthOf t ≤ length t) where
+            pub row-end : ended (own t) ≡ false → Not (NoFrame 4) ≡ outlineOf t
+            row-end h = answered 4 (passed ∙ rw (right, le-leb (lengthOf t) (length t) whole, h))
+
+            module _ (ends : ended (own t) ≡ true) where
+              pub row-check : (checkByte (own t) ≡ xorOf (inner (own t)) → ⊥) → Not (NoFrame 5) ≡ outlineOf t
+              row-check h = answered 5 (passed ∙ rw (right, le-leb (lengthOf t) (length t) whole, ends, ne-eqb (checkByte (own t)) (xorOf (inner (own t))) h))
+
+              module _ (checked : checkByte (own t) ≡ xorOf (inner (own t))) where
+                pub row-head : goodCells kindCells (drop 3 (own t)) ≡ false → Not (Refused 6 (lengthOf t)) ≡ outlineOf t
+                row-head h =
+                    answered 6 (passed ∙ rw (right, le-leb (lengthOf t) (length t) whole, ends, eq-eqb (checkByte (own t)) (xorOf (inner (own t))) checked, h))
+
+                pub row-all : goodCells kindCells (drop 3 (own t)) ≡ true → Whole (headOf (own t)) ≡ outlineOf t
+                row-all h =
+                    answered 0 (passed ∙ rw (right, le-leb (lengthOf t) (length t) whole, ends, eq-eqb (checkByte (own t)) (xorOf (inner (own t))) checked, h))
+
+-- ---- the header's digits: x is the length's last byte, g what follows it
+module _ (x : ℕ) (g : List ℕ) (long : 7 ≤ length g) where
+  pub head-good : goodByte x ≡ true → good (take 8 (x ∷ g)) ≡ goodCells kindCells g
+  head-good h = ap (λ (t : Bool). t && good (take 7 g)) h ∙ sym (good-wholes (1 ∷ 1 ∷ 1 ∷ 4 ∷ []) g long)
+
+-- six digits behind others
+six-digits : (x a b c : ℕ) → a < 100 → b < 100 → c < 100 → (((x * 100 + a) * 100 + b) * 100 + c) % 1000000 ≡ (a * 100 + b) * 100 + c
+six-digits x a b c ha hb hc = omega arith
+
+pub head-kind : (x : ℕ) (g : List ℕ) → 3 ≤ length g → good (take 7 g) ≡ true
+    → value (take 4 (take 8 (x ∷ g))) % 1000000
+    ≡ (getD (decode kindCells g) 0 0 * 100 + getD (decode kindCells g) 1 0) * 100 + getD (decode kindCells g) 2 0
+head-kind x (a ∷ b ∷ c ∷ g) l h =
+    let ga = and-left (goodByte a) _ h in
+    let hb = and-right (goodByte a) _ h in
+    let gb = and-left (goodByte b) _ hb in
+    let hc = and-right (goodByte b) _ hb in
+    let gc = and-left (goodByte c) _ hc in
+    let e : ((0 + two a) * 100 + (0 + two b)) * 100 + (0 + two c) ≡ (two a * 100 + two b) * 100 + two c = omega arith in
+    six-digits (0 + two x) (two a) (two b) (two c) (two-lt a ga) (two-lt b gb) (two-lt c gc) ∙ sym e
+head-kind x [] l h = absurd (omega arith)
+head-kind x (a ∷ []) l h = absurd (omega arith)
+head-kind x (a ∷ b ∷ []) l h = absurd (omega arith)
+
+pub head-number : (x : ℕ) (g : List ℕ) → 3 ≤ length g → value (drop 4 (take 8 (x ∷ g))) ≡ getD (decode kindCells g) 3 0
+head-number x (a ∷ b ∷ c ∷ g) l = refl
+head-number x [] l = absurd (omega arith)
+head-number x (a ∷ []) l = absurd (omega arith)
+head-number x (a ∷ b ∷ []) l = absurd (omega arith)
+
+-- ---- the bytes of the length, one by one
+pub length-bytes : (t : List ℕ) → 3 ≤ length t → lengthBytes t ≡ getD t 1 0 ∷ getD t 2 0 ∷ []
+length-bytes (a ∷ b ∷ c ∷ t) h = refl
+length-bytes [] h = absurd (omega arith)
+length-bytes (a ∷ []) h = absurd (omega arith)
+length-bytes (a ∷ b ∷ []) h = absurd (omega arith)
+
+-- the length that they give
+module _ (t : List ℕ) (three : 3 ≤ length t) where
+  same-right : lengthRight t ≡ lengthRight (27 ∷ getD t 1 0 ∷ getD t 2 0 ∷ [])
+  same-right = ap (λ (bs : List ℕ). goodField 4 bs && (leb 14 (value bs) && leb (value bs) 1024)) (length-bytes t three)
+
+  same-length : lengthOf t ≡ lengthOf (27 ∷ getD t 1 0 ∷ getD t 2 0 ∷ [])
+  same-length = ap value (length-bytes t three)
+
+  pub length-last : lengthRight t ≡ true → goodByte (getD t 2 0) ≡ true
+  length-last right =
+      let g : good (getD t 1 0 ∷ getD t 2 0 ∷ []) ≡ true = ap good (sym (length-bytes t three)) ∙ and-left (good (lengthBytes t)) _ (and-left (goodField 4 (lengthBytes t)) _ right) in
+      and-left (goodByte (getD t 2 0)) true (and-right (goodByte (getD t 1 0)) _ g)
+
+  pub length-least : lengthRight t ≡ true → 14 ≤ lengthOf t
+  length-least right = leb-true 14 (lengthOf t) (and-left (leb 14 (lengthOf t)) _ (and-right (goodField 4 (lengthBytes t)) _ right))
+
+  module _ (n : ℕ) (is : n ≡ lengthIn (getD t 1 0) (getD t 2 0)) where
+    by-test : n ≡ cond (lengthRight t) (lengthOf t) 0
+    by-test = is ∙ ap₂ (λ (r : Bool) (k : ℕ). cond r k 0) (sym same-right) (sym same-length)
+
+    pub length-none : n ≡ 0 → lengthRight t ≡ false
+    length-none z = go (lengthRight t) refl by-test
+      where
+        go : (r : Bool) → lengthRight t ≡ r → n ≡ cond r (lengthOf t) 0 → r ≡ false
+        go false e q = refl
+        go true e q = absurd (omega (arith, length-least e))
+
+    pub length-some : (n ≡ 0 → ⊥) → (lengthRight t ≡ true) × (n ≡ lengthOf t)
+    length-some some = go (lengthRight t) by-test
+      where
+        go : (r : Bool) → n ≡ cond r (lengthOf t) 0 → (r ≡ true) × (n ≡ lengthOf t)
+        go true q = (refl, q)
+        go false q = absurd (some q)
+
+-- ---- the outline is that of the frame's own bytes
+
+-- the rows on these
+abbrev lastRows : List ℕ → List Row
+lastRows f = must 4 (ended f) ∷ must 5 (eqb (checkByte f) (xorOf (inner f))) ∷ must 6 (goodCells kindCells (drop 3 f)) ∷ []
+
+module _ (t : List ℕ) (starts : getD t 0 0 ≡ 27) (three : 3 ≤ length t) (right : lengthRight t ≡ true) (whole : lengthOf t ≤ length t) where
+  least : 14 ≤ lengthOf t
+  least = length-least t three right
+
+  own-bytes : lengthBytes (own t) ≡ lengthBytes t
+  own-bytes = length-bytes-taken (lengthOf t) t (omega (arith, least)) three
+
+  pub own-length : lengthOf (own t) ≡ lengthOf t
+  own-length = ap value own-bytes
+
+  pub own-count : length (own t) ≡ lengthOf t
+  own-count = length-take-le (lengthOf t) t whole
+
+  pub own-right : lengthRight (own t) ≡ true
+  own-right = ap (λ (bs : List ℕ). goodField 4 bs && (leb 14 (value bs) && leb (value bs) 1024)) own-bytes ∙ right
+
+  pub own-starts : getD (own t) 0 0 ≡ 27
+  own-starts = getD-take (lengthOf t) t 0 0 (omega (arith, least)) ∙ starts
+
+  pub own-own : own (own t) ≡ own t
+  own-own = ap (λ (k : ℕ). take k (own t)) own-length ∙ take-take (lengthOf t) (lengthOf t) t (omega arith)
+
+  left-rows : firstFail (outlineRows t) ≡ firstFail (lastRows (own t))
+  left-rows = passed t (omega arith) starts three ∙ rw (right, le-leb (lengthOf t) (length t) whole)
+
+-- any bytes behind the frame's own change nothing
+pub outline-own : (t : List ℕ) → getD t 0 0 ≡ 27 → 3 ≤ length t → lengthRight t ≡ true → lengthOf t ≤ length t → outlineOf (own t) ≡ outlineOf t
+unfolding outlineOf
+outline-own t starts three right whole =
+    let f = own t in
+    let count = own-count t starts three right whole in
+    let told = own-length t starts three right whole in
+    let same = own-own t starts three right whole in
+    let rows : firstFail (outlineRows f) ≡ firstFail (outlineRows t) =
+    left-rows f (own-starts t starts three right whole) (omega (arith, count, least t starts three right whole)) (own-right t starts three right whole) (omega arith)
+    ∙ ap (λ (m : List ℕ). firstFail (lastRows m)) same
+    ∙ sym (left-rows t starts three right whole) in
+    ap₂ (λ (n l : ℕ). cond (eqb n 0) (Whole (headOf (own f))) (Not (named n (record { format = 0; seq = 0; length = l })))) rows told
+    ∙ ap (λ (m : List ℕ). cond (eqb (firstFail (outlineRows t)) 0) (Whole (headOf m)) (Not (named (firstFail (outlineRows t)) (record { format = 0; seq = 0; length = lengthOf t })))) same
+
+-- ---- a frame's own bytes f, test by test
+module _ (f : List ℕ) (long : 14 ≤ length f) (starts : getD f 0 0 ≡ 27) (right : lengthRight f ≡ true) (told : lengthOf f ≡ length f) where
+  is-own : own f ≡ f
+  is-own = ap (λ (k : ℕ). take k f) told ∙ take-length f
+
+  pub own-return : (getD f (length f - 2) 0 ≡ 13 → ⊥) → Not (NoFrame 4) ≡ outlineOf f
+  own-return h =
+      row-end f (omega arith) starts (omega arith) right (omega arith)
+      (ap ended is-own ∙ ap (λ (t : Bool). t && eqb (getD f (length f - 1) 0) 10) (ne-eqb (getD f (length f - 2) 0) 13 h))
+
+  module _ (cr : getD f (length f - 2) 0 ≡ 13) where
+    pub own-feed : (getD f (length f - 1) 0 ≡ 10 → ⊥) → Not (NoFrame 4) ≡ outlineOf f
+    own-feed h =
+        row-end f (omega arith) starts (omega arith) right (omega arith)
+        (ap ended is-own ∙ ap₂ _&&_ (eq-eqb (getD f (length f - 2) 0) 13 cr) (ne-eqb (getD f (length f - 1) 0) 10 h))
+
+    module _ (lf : getD f (length f - 1) 0 ≡ 10) (x : ℕ) (is : x ≡ xorOf (take (length f - 3 - 1) (drop 1 f))) where
+      ends : ended (own f) ≡ true
+      ends = ap ended is-own ∙ and-both (eq-eqb (getD f (length f - 2) 0) 13 cr) (eq-eqb (getD f (length f - 1) 0) 10 lf)
+
+      covers : xorOf (inner (own f)) ≡ x
+      covers =
+          let e : length f - 3 - 1 ≡ length f - 4 = omega arith in
+          sym (is ∙ ap (λ (k : ℕ). xorOf (take k (drop 1 f))) e ∙ ap (λ (m : List ℕ). xorOf (inner m)) (sym is-own))
+
+      pub own-check : (getD f (length f - 3) 0 ≡ x → ⊥) → Not (NoFrame 5) ≡ outlineOf f
+      own-check h =
+          row-check f (omega arith) starts (omega arith) right (omega arith) ends
+          (λ q. h (sym (ap checkByte is-own) ∙ q ∙ covers))
+
+      module _ (same : getD f (length f - 3) 0 ≡ x) (h : Block) (read : h ≡ blockAt 8 4 f 2) where
+        checked : checkByte (own f) ≡ xorOf (inner (own f))
+        checked = ap checkByte is-own ∙ same ∙ sym covers
+
+        -- the length's last byte, and what follows
+        apart : drop 2 f ≡ getD f 2 0 ∷ drop 3 f
+        apart = drop-cons f 2 0 (omega arith)
+
+        enough : 7 ≤ length (drop 3 f)
+        enough = rw length-drop (omega arith)
+
+        halves : h ≡ blockOf 4 (take 8 (getD f 2 0 ∷ drop 3 f))
+        halves =
+            read ∙ ap (λ (t : Bool). cond t (blockOf 4 (take 8 (drop 2 f))) noBlock) (le-leb (2 + 8) (length f) (omega arith))
+            ∙ ap (λ (m : List ℕ). blockOf 4 (take 8 m)) apart
+
+        digits-good : h .good ≡ goodCells kindCells (drop 3 (own f))
+        digits-good =
+            ap (λ (r : Block). r .good) halves ∙ head-good (getD f 2 0) (drop 3 f) enough (length-last f (omega arith) right)
+            ∙ ap (λ (m : List ℕ). goodCells kindCells (drop 3 m)) (sym is-own)
+
+        pub own-head : h .good ≡ false → Not (Refused 6 (length f)) ≡ outlineOf f
+        own-head b =
+            ap (λ (k : ℕ). Not (Refused 6 k)) (sym told)
+            ∙ row-head f (omega arith) starts (omega arith) right (omega arith) ends checked (sym digits-good ∙ b)
+
+        pub own-whole : h .good ≡ true → Whole (record { kind = h .first % 1000000; seq = h .last; length = length f }) ≡ outlineOf f
+        own-whole b =
+            let g : good (take 7 (drop 3 f)) ≡ true =
+            sym (good-wholes (1 ∷ 1 ∷ 1 ∷ 4 ∷ []) (drop 3 f) enough) ∙ ap (λ (m : List ℕ). goodCells kindCells (drop 3 m)) (sym is-own) ∙ sym digits-good ∙ b in
+            let k = ap (λ (r : Block). r .first % 1000000) halves ∙ head-kind (getD f 2 0) (drop 3 f) (omega (arith, enough)) g in
+            let s = ap (λ (r : Block). r .last) halves ∙ head-number (getD f 2 0) (drop 3 f) (omega (arith, enough)) in
+            ap₂ (λ (x y : ℕ). Whole (record { kind = x; seq = y; length = length f })) k s
+            ∙ ap (λ (m : List ℕ). Whole (headOf m)) (sym is-own)
+            ∙ row-all f (omega arith) starts (omega arith) right (omega arith) ends checked (sym digits-good ∙ b)
+
+-- ---- a line from a place on, test by test
+module _ (line : List ℕ) (at : ℕ) where
+  byte-at : (k : ℕ) → getD (drop at line) k 0 ≡ getD line (at + k) 0
+  byte-at k = getD-drop at line k 0
+
+  first-at : getD (drop at line) 0 0 ≡ getD line at 0
+  first-at = let e : at + 0 ≡ at = omega arith in byte-at 0 ∙ ap (λ (k : ℕ). getD line k 0) e
+
+  pub line-none : length line ≤ at → Not (NoFrame 2) ≡ outlineOf (drop at line)
+  line-none h = row-none (drop at line) (rw length-drop (omega arith))
+
+  module _ (some : at < length line) where
+    pub line-first : (getD line at 0 ≡ 27 → ⊥) → Not (NoFrame 1) ≡ outlineOf (drop at line)
+    line-first h = row-first (drop at line) (rw length-drop (omega arith)) (λ q. h (sym first-at ∙ q))
+
+    module _ (starts : getD line at 0 ≡ 27) where
+      pub line-three : length line - at < 3 → Not (NoFrame 2) ≡ outlineOf (drop at line)
+      line-three h = row-three (drop at line) (rw length-drop (omega arith)) (first-at ∙ starts) (rw length-drop (omega arith))
+
+      module _ (three : 3 ≤ length line - at) (n : ℕ) (is : n ≡ lengthIn (getD line (at + 1) 0) (getD line (at + 2) 0)) where
+        enough-at : 3 ≤ length (drop at line)
+        enough-at = rw length-drop three
+
+        length-at : n ≡ lengthIn (getD (drop at line) 1 0) (getD (drop at line) 2 0)
+        length-at = is ∙ ap₂ lengthIn (sym (byte-at 1)) (sym (byte-at 2))
+
+        pub line-length : n ≡ 0 → Not (NoFrame 3) ≡ outlineOf (drop at line)
+        line-length z =
+            row-length (drop at line) (rw length-drop (omega arith)) (first-at ∙ starts) enough-at
+            (length-none (drop at line) enough-at n length-at z)
+
+        module _ (length-is : n ≡ 0 → ⊥) where
+          right-at : lengthRight (drop at line) ≡ true
+          right-at = length-some (drop at line) enough-at n length-at length-is .0
+
+          told-at : n ≡ lengthOf (drop at line)
+          told-at = length-some (drop at line) enough-at n length-at length-is .1
+
+          pub line-whole : length line - at < n → Not (NoFrame 2) ≡ outlineOf (drop at line)
+          line-whole h =
+              row-whole (drop at line) (rw length-drop (omega arith)) (first-at ∙ starts) enough-at right-at
+              (rw (length-drop, ← told-at) h)
+
+          module _ (whole : n ≤ length line - at) where
+            whole-at : lengthOf (drop at line) ≤ length (drop at line)
+            whole-at = rw (length-drop, ← told-at) whole
+
+            part-own : take (at + n - at) (drop at line) ≡ own (drop at line)
+            part-own = let e : at + n - at ≡ n = omega arith in ap (λ (k : ℕ). take k (drop at line)) (e ∙ told-at)
+
+            -- what the frame's own part has to be
+            pub line-part : (14 ≤ length (take (at + n - at) (drop at line))) × (getD (take (at + n - at) (drop at line)) 0 0 ≡ 27)
+                × (lengthRight (take (at + n - at) (drop at line)) ≡ true)
+                × (lengthOf (take (at + n - at) (drop at line)) ≡ length (take (at + n - at) (drop at line)))
+            line-part =
+                let t = drop at line in
+                let s = first-at ∙ starts in
+                let count = own-count t s enough-at right-at whole-at in
+                rw part-own (
+                  omega (arith, count, least t s enough-at right-at whole-at),
+                  own-starts t s enough-at right-at whole-at,
+                  own-right t s enough-at right-at whole-at,
+                  own-length t s enough-at right-at whole-at ∙ sym count,
+                )
+
+            pub line-own : outlineOf (take (at + n - at) (drop at line)) ≡ outlineOf (drop at line)
+            line-own = ap outlineOf part-own ∙ outline-own (drop at line) (first-at ∙ starts) enough-at right-at whole-at

@@ -1,0 +1,113 @@
+-- What a reader of frames goes by: what the outline's answer tells, where the body stands on the line, and that bytes behind a frame change nothing.
+use Prim.Native.Nat.{ℕ, zero, suc, _+_, _-_, _≤_}
+use mathlib.Core.Path.{_≡_, refl, sym, ap, ap₂, _∙_}
+use mathlib.Core.Bool.{Bool, true, false, cond, _&&_}
+use mathlib.Core.List.{List, [], _∷_, _++_}
+use native.Mathlib.Omega.{arith}
+use lib.ListN.{length, getD, take, drop, length-append, List·getD-append}
+use lib.Seq.{take-take, take-append-le, drop-append-le, drop-drop}
+use lib.Dec.{eqb, leb}
+use borrow.Author.Tests.{eqb-true, eqb-false, leb-true, leb-false}
+use Rattle.digits.specs.Packed.{goodField, value}
+use Rattle.layout.specs.Rows.{firstFail}
+use Rattle.answers.specs.Answers.{named}
+use Rattle.stock_frame.specs.Outline.{lengthBytes, lengthOf, own, body, lengthRight, outlineRows, headOf, outlineOf}
+use Rattle.stock_frame.specs.declared.head.Head.{Head}
+use Rattle.answers.specs.declared.Answer.{Answer}
+use Rattle.answers.specs.declared.Answer.the-variants.{NoFrame}
+use Rattle.stock_frame.specs.declared.head.Outline.the-variants.{Whole, Not}
+use Rattle.stock_frame.proofs.OutlineLaws.{Outlined, passes-outlined, length-own, least-length}
+use Rattle.stock_frame.proofs.OutlineSteps.{answered, row-none, row-first, row-three, row-length, row-whole, outline-own}
+
+-- ---- what the answer tells
+module _ (t : List ℕ) where
+  -- a whole outline is one whose rows all hold, and its header is that of the frame's own bytes
+  pub whole-outlined : (h : Head) → outlineOf t ≡ Whole h → Outlined t × (h ≡ headOf (own t))
+  whole-outlined h e = go (eqb (firstFail (outlineRows t)) 0) refl (answered t (firstFail (outlineRows t)) refl ∙ e)
+    where
+      go : (b : Bool) → eqb (firstFail (outlineRows t)) 0 ≡ b
+          → cond b (Whole (headOf (own t))) (Not (named (firstFail (outlineRows t)) (record { format = 0; seq = 0; length = lengthOf t }))) ≡ Whole h
+          → Outlined t × (h ≡ headOf (own t))
+      go true z q = (passes-outlined t (eqb-true (firstFail (outlineRows t)) 0 z), cc)
+      go false z q = let x : _≡_ {A = ℕ} 0 1 = cc in absurd (omega arith)
+
+  -- any other outline is the answer of the first row that fails
+  pub not-outlined : (a : Answer) → outlineOf t ≡ Not a
+      → (firstFail (outlineRows t) ≡ 0 → ⊥) × (a ≡ named (firstFail (outlineRows t)) (record { format = 0; seq = 0; length = lengthOf t }))
+  not-outlined a e = go (eqb (firstFail (outlineRows t)) 0) refl (answered t (firstFail (outlineRows t)) refl ∙ e)
+    where
+      go : (b : Bool) → eqb (firstFail (outlineRows t)) 0 ≡ b
+          → cond b (Whole (headOf (own t))) (Not (named (firstFail (outlineRows t)) (record { format = 0; seq = 0; length = lengthOf t }))) ≡ Not a
+          → (firstFail (outlineRows t) ≡ 0 → ⊥) × (a ≡ named (firstFail (outlineRows t)) (record { format = 0; seq = 0; length = lengthOf t }))
+      go true z q = let x : _≡_ {A = ℕ} 0 1 = cc in absurd (omega arith)
+      go false z q = (eqb-false (firstFail (outlineRows t)) 0 z, cc)
+
+-- ---- parts of the first m bytes
+pub part-taken : (k n m : ℕ) (l : List ℕ) → n + k ≤ m → take k (drop n (take m l)) ≡ take k (drop n l)
+part-taken k zero m l h = take-take k m l (omega arith)
+part-taken k (suc n) zero l h = absurd (omega arith)
+part-taken k (suc n) (suc m) [] h = refl
+part-taken k (suc n) (suc m) (x ∷ l) h = part-taken k n m l (omega arith)
+
+-- the body of the frame at a place, as the part `&line[s..e]`
+pub body-part : (line : List ℕ) (at s e : ℕ) → Outlined (drop at line) → s ≡ at + 10 → e + 3 ≡ at + lengthOf (drop at line)
+    → take (e - s) (drop s line) ≡ body (own (drop at line))
+body-part line at s e o p q =
+    let t = drop at line in
+    let n : length (own t) ≡ lengthOf t = length-own t o in
+    let k : e - s ≡ length (own t) - 13 = omega arith in
+    ap₂ (λ (i : ℕ) (j : ℕ). take i (drop j line)) k p
+    ∙ ap (take (length (own t) - 13)) (sym (drop-drop 10 at line))
+    ∙ sym (part-taken (length (own t) - 13) 10 (lengthOf t) t (omega (arith, least-length t o)))
+
+-- ---- bytes behind: an answer other than 2 stays
+module _ (t u : List ℕ) where
+  longer : length t ≤ length (t ++ u)
+  longer = omega (arith, length-append t u)
+
+  more-first : 1 ≤ length t → getD (t ++ u) 0 0 ≡ getD t 0 0
+  more-first h = List·getD-append t u 0 0 h
+
+  more-bytes : 3 ≤ length t → lengthBytes (t ++ u) ≡ lengthBytes t
+  more-bytes h =
+      ap (take 2) (drop-append-le 1 t u (omega arith))
+      ∙ take-append-le 2 (drop 1 t) u (omega (arith, lib.ListN.length-drop 1 t))
+
+  more-right : 3 ≤ length t → lengthRight (t ++ u) ≡ lengthRight t
+  more-right h = ap (λ (bs : List ℕ). goodField 4 bs && (leb 14 (value bs) && leb (value bs) 1024)) (more-bytes h)
+
+  more-length : 3 ≤ length t → lengthOf (t ++ u) ≡ lengthOf t
+  more-length h = ap value (more-bytes h)
+
+  module _ (settled : outlineOf t ≡ Not (NoFrame 2) → ⊥) where
+    pub outline-more : outlineOf (t ++ u) ≡ outlineOf t
+    outline-more = some (leb 1 (length t)) refl
+      where
+        whole : (three : 3 ≤ length t) → getD t 0 0 ≡ 27 → lengthRight t ≡ true → (b : Bool) → leb (lengthOf t) (length t) ≡ b → outlineOf (t ++ u) ≡ outlineOf t
+        whole three s r true e =
+            let w : lengthOf t ≤ length t = leb-true (lengthOf t) (length t) e in
+            let m : lengthOf (t ++ u) ≤ length (t ++ u) = omega (arith, longer, more-length three) in
+            sym (outline-own (t ++ u) (more-first (omega arith) ∙ s) (omega (arith, longer)) (more-right three ∙ r) m)
+            ∙ ap outlineOf (ap (λ (k : ℕ). take k (t ++ u)) (more-length three) ∙ take-append-le (lengthOf t) t u w)
+            ∙ outline-own t s three r w
+        whole three s r false e = absurd (settled (sym (row-whole t (omega arith) s three r (leb-false (lengthOf t) (length t) e))))
+
+        right : (three : 3 ≤ length t) → getD t 0 0 ≡ 27 → (b : Bool) → lengthRight t ≡ b → outlineOf (t ++ u) ≡ outlineOf t
+        right three s true e = whole three s e (leb (lengthOf t) (length t)) refl
+        right three s false e =
+            sym (row-length (t ++ u) (omega (arith, longer)) (more-first (omega arith) ∙ s) (omega (arith, longer)) (more-right three ∙ e))
+            ∙ row-length t (omega arith) s three e
+
+        headed : (some : 1 ≤ length t) → getD t 0 0 ≡ 27 → (b : Bool) → leb 3 (length t) ≡ b → outlineOf (t ++ u) ≡ outlineOf t
+        headed h s true e = right (leb-true 3 (length t) e) s (lengthRight t) refl
+        headed h s false e = absurd (settled (sym (row-three t h s (leb-false 3 (length t) e))))
+
+        starts : (some : 1 ≤ length t) → (b : Bool) → eqb (getD t 0 0) 27 ≡ b → outlineOf (t ++ u) ≡ outlineOf t
+        starts h true e = headed h (eqb-true (getD t 0 0) 27 e) (leb 3 (length t)) refl
+        starts h false e =
+            let n : getD t 0 0 ≡ 27 → ⊥ = eqb-false (getD t 0 0) 27 e in
+            sym (row-first (t ++ u) (omega (arith, longer)) (λ q. n (sym (more-first h) ∙ q))) ∙ row-first t h n
+
+        some : (b : Bool) → leb 1 (length t) ≡ b → outlineOf (t ++ u) ≡ outlineOf t
+        some true e = starts (leb-true 1 (length t) e) (eqb (getD t 0 0) 27) refl
+        some false e = absurd (settled (sym (row-none t (leb-false 1 (length t) e))))

@@ -1,0 +1,48 @@
+-- A frame written: 27, what it covers, the check byte, 0D 0A; and what a writing answers and leaves.
+use Prim.Native.Nat.{ℕ, _+_, _-_, _^_}
+use mathlib.Core.Bool.{Bool, cond, _&&_}
+use mathlib.Core.List.{List, [], _∷_, _++_}
+use lib.ListN.{length, take, drop}
+use lib.Dec.{leb, ltb}
+use Rattle.layout.specs.Cells.{Cell, encode}
+use Rattle.words.specs.Check.{xorOf}
+use Rattle.stock_frame.specs.Outline.{headCells}
+use Rattle.stock_frame.specs.Format.{Format, around}
+use Rattle.answers.specs.declared.Written.{Written}
+use Rattle.answers.specs.declared.Written.the-variants.{Done, Illegal, NoRoom}
+
+-- the bytes around what the check byte covers
+abbrev pub sealed : List ℕ → List ℕ
+sealed i = 27 ∷ i ++ (xorOf i ∷ 13 ∷ 10 ∷ [])
+
+-- the header's numbers
+abbrev pub headValues : ℕ → ℕ → ℕ → ℕ → List ℕ
+headValues len format version seq = len ∷ 1 ∷ format ∷ version ∷ seq ∷ []
+
+-- a frame around a body
+abbrev pub frameAround : ℕ → ℕ → ℕ → List ℕ → List ℕ
+frameAround format version seq b = sealed (encode headCells (headValues (around + length b) format version seq) ++ b)
+
+-- a frame of a format with a layout and its numbers
+abbrev pub frameBytes : Format → ℕ → List Cell → List ℕ → List ℕ
+frameBytes F seq cs vs = frameAround (F .number) (F .version) seq (encode cs vs)
+
+-- what writing a frame into a buffer answers, and the buffer afterwards: 14 before 15, and a refusal leaves it
+abbrev pub writeAnswer : Bool → List ℕ → List ℕ → Written
+writeAnswer legal f buf = cond legal (cond (leb (length f) (length buf)) (Done (length f)) NoRoom) Illegal
+
+abbrev pub writtenOver : Bool → List ℕ → List ℕ → List ℕ
+writtenOver legal f buf = cond (legal && leb (length f) (length buf)) (f ++ drop (length f) buf) buf
+
+-- a frame of n bytes can stand at the start of a buffer: its header's numbers fit their cells, and n is a length
+abbrev pub closable : ℕ → ℕ → ℕ → ℕ → Bool
+closable format version seq n = ltb format 100 && (ltb version 100 && (ltb seq (10 ^ 8) && (leb 14 n && leb n 1024)))
+
+-- the body stands at its place in the buffer: what closing the frame of n bytes around it answers, and the buffer afterwards
+abbrev pub closeAnswer : ℕ → ℕ → ℕ → ℕ → List ℕ → Written
+closeAnswer format version seq n buf = cond (closable format version seq n) (cond (leb n (length buf)) (Done n) NoRoom) Illegal
+
+abbrev pub closedOver : ℕ → ℕ → ℕ → ℕ → List ℕ → List ℕ
+closedOver format version seq n buf =
+    cond (closable format version seq n && leb n (length buf))
+    (frameAround format version seq (take (n - around) (drop 10 buf)) ++ drop n buf) buf

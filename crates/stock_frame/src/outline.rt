@@ -1,0 +1,94 @@
+// Where a frame begins and ends on a line: the rows up to the header's digits.
+ghost use mathlib.Core.Path.{_≡_};
+ghost use Prim.Native.Nat.{_≤_};
+ghost use mathlib.Core.Bool.{true, cond};
+ghost use mathlib.Core.List.{[], _∷_};
+ghost use lib.ListN.{length, getD, drop};
+ghost use Rattle.stock_frame.specs.Outline.{lengthOf, lengthRight, outlineOf};
+use crate::head::Head;
+use crate::head::Outline;
+use answers::Answer;
+use words::blocks::eight_at;
+use words::check::xor_of;
+
+// The length that a frame's second and third byte give; 0 where they give none.
+fn length_in(a: u8, b: u8) -> usize
+    ensures { λ r. ⌜ r ≡ cond (lengthRight (27 ∷ a ∷ b ∷ [])) (lengthOf (27 ∷ a ∷ b ∷ [])) 0 ⌝ }
+{
+    let a1 = a / 16;
+    let a2 = a % 16;
+    let b1 = b / 16;
+    let b2 = b % 16;
+    if a1 > 9 {
+        return 0;
+    }
+    if a2 > 9 {
+        return 0;
+    }
+    if b1 > 9 {
+        return 0;
+    }
+    if b2 > 9 {
+        return 0;
+    }
+    let n = (a1 * 10 + a2) as usize * 100 + (b1 * 10 + b2) as usize;
+    if n < 14 {
+        return 0;
+    }
+    if n > 1024 {
+        return 0;
+    }
+    n
+}
+
+// The outline of a frame's own bytes, whose first three are known.
+fn own_outline(f: &[u8]) -> Outline
+    requires { ⌜ (14 ≤ length (now f)) × (getD (now f) 0 0 ≡ 27) × (lengthRight (now f) ≡ true) × (lengthOf (now f) ≡ length (now f)) ⌝ }
+    ensures { λ r. ⌜ r ≡ outlineOf (now (f .entry)) ⌝ }
+{
+    let n = f.len();
+    if f[n - 2] != 13 {
+        return Outline::Not(Answer::NoFrame(4));
+    }
+    if f[n - 1] != 10 {
+        return Outline::Not(Answer::NoFrame(4));
+    }
+    let x = xor_of(&f[1..n - 3]);
+    if f[n - 3] != x {
+        return Outline::Not(Answer::NoFrame(5));
+    }
+    let h = eight_at(f, 2);
+    if h.good {
+        return Outline::Whole(Head {
+            kind: h.first % 1000000,
+            seq: h.last,
+            length: n,
+        });
+    }
+    Outline::Not(Answer::Refused(6, n))
+}
+
+// The outline of the bytes from a place.
+pub fn outline(line: &[u8], at: usize) -> Outline
+    ensures { λ r. ⌜ r ≡ outlineOf (drop at (now (line .entry))) ⌝ }
+{
+    if line.len() <= at {
+        return Outline::Not(Answer::NoFrame(2));
+    }
+    if line[at] != 27 {
+        return Outline::Not(Answer::NoFrame(1));
+    }
+    let left = line.len() - at;
+    if left < 3 {
+        return Outline::Not(Answer::NoFrame(2));
+    }
+    let n = length_in(line[at + 1], line[at + 2]);
+    if n == 0 {
+        return Outline::Not(Answer::NoFrame(3));
+    }
+    if left < n {
+        return Outline::Not(Answer::NoFrame(2));
+    }
+    let end = at + n;
+    own_outline(&line[at..end])
+}

@@ -1,0 +1,73 @@
+-- The stock exchange's line: its reading, with and without the messages, and what the calls say of a walk over it.
+use Prim.Native.Nat.{ℕ}
+use mathlib.Core.Bool.{Bool, cond}
+use mathlib.Core.List.{List}
+use lib.ListN.{drop}
+use lib.Dec.{eqb}
+use Rattle.answers.specs.Answers.{answerNumber, answerLength}
+use Rattle.answers.specs.declared.Answer.{Answer}
+use Rattle.answers.specs.declared.Answer.the-variants.{Accepted, NoFrame, Refused}
+use Rattle.stock_notices.specs.Notices.{fiveCodec, noNotice}
+use Rattle.stock_notices.specs.declared.Notice.{Notice}
+use Rattle.stock_quotes.specs.Quotes.{sixCodec, noQuote}
+use Rattle.stock_quotes.specs.declared.quote.Quote.{Quote}
+use Rattle.stock_prices.specs.Prices.{twelveCodec, noPrices}
+use Rattle.stock_prices.specs.declared.Prices.{Prices}
+use Rattle.stock_halts.specs.Halts.{nineteenCodec, noHalt}
+use Rattle.stock_halts.specs.declared.Halt.{Halt}
+use Rattle.stock_reading.specs.Reading.{answerOf, messageBy}
+use Rattle.walk.specs.Walk.{Reading, taken, stops, walkFrom}
+use Rattle.walk.specs.Answers.{answering}
+use Rattle.walk.specs.Told.{nextOf}
+use Rattle.walk.specs.declared.rows.Kept.{Kept}
+use Rattle.walk.specs.declared.rows.Next.{Next}
+use Rattle.stock_lines.specs.declared.moves.Step.{Step}
+use Rattle.stock_lines.specs.declared.moves.Step.the-variants.{Moved, Stopped}
+
+-- the reading of the frames, by their answers
+abbrev pub answers : Reading Answer
+answers = answering answerOf
+
+-- the longest frame
+abbrev pub longest : ℕ
+longest = 1024
+
+-- the message of an accepted frame, of one of the four kinds
+pub data Message : Type 0 where
+  none : Message
+  notice : Notice → Message
+  quote : Quote → Message
+  prices : Prices → Message
+  halt : Halt → Message
+
+abbrev pub messageIn : Answer → List ℕ → Message
+messageIn (Accepted f) t =
+    cond (eqb (f .format) 6) (quote (messageBy sixCodec noQuote t))
+    (cond (eqb (f .format) 12) (prices (messageBy twelveCodec noPrices t))
+    (cond (eqb (f .format) 19) (halt (messageBy nineteenCodec noHalt t))
+    (notice (messageBy fiveCodec noNotice t))))
+messageIn (NoFrame n) t = none
+messageIn (Refused n l) t = none
+
+-- an answer with its message
+pub record Saying : Type 0 where
+  pub answer : Answer
+  pub message : Message
+
+-- the reading of the frames, with their messages
+abbrev pub sayings : Reading Saying
+sayings = record {
+  says = λ t. record { answer = answerOf t; message = messageIn (answerOf t) t };
+  number = λ s. answerNumber (s .answer);
+  size = λ s. answerLength (s .answer);
+}
+
+-- the move at a place of a line, or that the walk stops there
+abbrev pub moveAt : Bool → ℕ → List ℕ → Step
+moveAt closed at line =
+    let t = drop at line in
+    cond (stops answers closed t) Stopped (Moved (record { at = at; bytes = taken answers (answerOf t); answer = answerOf t }))
+
+-- the next rows of a line from a place on, with what is kept from the pieces before
+abbrev pub nextRows : Bool → Kept → ℕ → List ℕ → Next
+nextRows closed kept at line = nextOf (walkFrom answers closed (kept .at) (drop at line)) kept at

@@ -1,0 +1,88 @@
+-- `rules::timed` meets its contract. The loop's invariant: the test that goes on from slot i is the test of all.
+use Prim.Native.Nat.{ℕ, _+_, _-_, _≤_}
+use mathlib.Core.Path.{_≡_, refl, sym, ap, _∙_}
+use native.Mathlib.Omega.{arith}
+use borrow.Author.Needs.{needs}
+use borrow.Author.Tests.{not-true, not-false}
+use lib.ListN.{drop, getD}
+use Rattle.stock_prices.specs.Prices.{slotsPass, slotTimed, slotsValues}
+use Rattle.stock_prices.proofs.Shapes.{someSlot, codes-long}
+use Rattle.stock_prices.proofs.RuleLaws.{codes-at, timed-by, pass-fails, pass-again, pass-done}
+use Rattle.stock_prices.proofs.rules.timed.Statement.{statement}
+use Rattle.stock_prices.proofs.rules.timed.Tie as tie
+
+abbrev Inv-loop : tie.InvT-loop
+Inv-loop n slots i₀ left₀ i left = (i ≤ 10) × (slotsPass slotTimed (10 - i) left (slotsValues (drop i slots)) ≡ slotsPass slotTimed 10 n (slotsValues slots))
+
+abbrev μ-loop : tie.MeasureT-loop
+μ-loop n slots i₀ left₀ i left = 10 - i
+
+loop-holds : tie.Need-loop-holds Inv-loop μ-loop
+loop-holds c = (omega arith, refl)
+
+mul-s : tie.Need-mul-s Inv-loop μ-loop
+mul-s c = search needs
+
+array-copy-out-s : tie.Need-array-copy-out-s Inv-loop μ-loop
+array-copy-out-s c = search needs
+
+time-of-day-requires : tie.Need-time-of-day-requires Inv-loop μ-loop
+time-of-day-requires c κs = search needs
+
+time-right-requires : tie.Need-time-right-requires Inv-loop μ-loop
+time-right-requires c κs = search needs
+
+returns : tie.Need-returns Inv-loop μ-loop
+returns c =
+    let o = c .before .before .before .before .before .before in
+    let a = o .args in
+    let l = c .before .before .before .before .before .loop in
+    let k = codes-long 10 (a .t1) _ (o .good .0) in
+    sym (pass-fails slotTimed (a .t1) (k .0) (k .1) someSlot (a .n) (l .left) (l .i) (omega arith) (l .inv .1)
+    (timed-by (getD (a .t1) (l .i) someSlot) (codes-at (a .t1) (l .i) someSlot (k .1) (omega arith)) (l .left) (c .before .before .time-of-day .ensures) ∙ sym (c .before .time-right .ensures) ∙ not-true _ (c .if1 .taken)))
+
+less-one-requires : tie.Need-less-one-requires Inv-loop μ-loop
+less-one-requires c κs = search needs
+
+add-i : tie.Need-add-i Inv-loop μ-loop
+add-i c = search needs
+
+loop-less : tie.Need-loop-less Inv-loop μ-loop
+loop-less c = search needs
+
+loop-again : tie.Need-loop-again Inv-loop μ-loop
+loop-again c =
+    let o = c .before .before .before .before .before .before .before in
+    let a = o .args in
+    let l = c .before .before .before .before .before .before .loop in
+    let k = codes-long 10 (a .t1) _ (o .good .0) in (
+      omega arith,
+      ap (λ (m : ℕ). slotsPass slotTimed (10 - (l .i + 1)) m (slotsValues (drop (l .i + 1) (a .t1)))) (c .less-one .ensures)
+          ∙ pass-again slotTimed (a .t1) (k .0) (k .1) someSlot (a .n) (l .left) (l .i) (omega arith) (l .inv .1)
+          (timed-by (getD (a .t1) (l .i) someSlot) (codes-at (a .t1) (l .i) someSlot (k .1) (omega arith)) (l .left) (c .before .before .before .time-of-day .ensures) ∙ sym (c .before .before .time-right .ensures) ∙ not-false _ (c .before .if1 .left)),
+    )
+
+returns-2 : tie.Need-returns-2 Inv-loop μ-loop
+returns-2 c =
+    let a = c .before .before .args in
+    let l = c .before .loop in
+    let k = codes-long 10 (a .t1) _ (c .before .before .good .0) in
+    sym (pass-done slotTimed (a .t1) (k .0) (k .1) (a .n) (l .left) (l .i) (omega arith) (omega arith) (l .inv .1))
+
+pub timed-spec : {M : Type 1} → statement M
+timed-spec =
+    tie.close
+    (tie.spec
+    Inv-loop
+    μ-loop
+    loop-holds
+    mul-s
+    array-copy-out-s
+    time-of-day-requires
+    time-right-requires
+    returns
+    less-one-requires
+    add-i
+    loop-less
+    loop-again
+    returns-2)

@@ -1,0 +1,187 @@
+-- Format six, version 04, 32 to 131 bytes: code 6, time 6, reveal, limit and status byte, total quantity 4, then pairs of price 5 and quantity 4.
+use Prim.Native.Nat.{ℕ, zero, suc, _+_, _-_, _/_, _%_}
+use mathlib.Core.Path.{_≡_}
+use mathlib.Core.Bool.{Bool, cond, _&&_}
+use mathlib.Core.List.{List, [], _∷_, _++_}
+use lib.ListN.{length, getD, take, drop, replicate}
+use lib.Dec.{eqb, leb}
+use Rattle.amounts.specs.Amounts.{asPrice, asQuantity}
+use Rattle.amounts.specs.declared.Pair.{Pair}
+use Rattle.layout.specs.Cells.{Cell, raw, digits, decode}
+use Rattle.layout.specs.Rows.{firstFail}
+use Rattle.stock_frame.specs.Format.{Format, valuesOf, bodyRows, bodyAnswer}
+use Rattle.codes_times.specs.Times.{timeOfDay, nines, every, codeRight, zeroCode}
+use Rattle.stock_frame.specs.Codec.{Codec}
+use Rattle.stock_quotes.specs.declared.quote.Quote.{Quote}
+use Rattle.stock_quotes.specs.declared.quote.QuoteReading.{QuoteReading}
+
+-- the reveal byte: bit 7, a trade pair; bits 6-4, bid levels; bits 3-1, ask levels; bit 0 is handed on
+abbrev pub trades : ℕ → ℕ
+trades reveal = reveal / 128 % 2
+
+abbrev pub bidLevels : ℕ → ℕ
+bidLevels reveal = reveal / 16 % 8
+
+abbrev pub askLevels : ℕ → ℕ
+askLevels reveal = reveal / 2 % 8
+
+abbrev pub pairCount : ℕ → ℕ
+pairCount reveal = trades reveal + (bidLevels reveal + askLevels reveal)
+
+-- n pairs of a price and a quantity
+unfoldable pub pairCells : ℕ → List Cell
+pairCells zero = []
+pairCells (suc n) = digits 9 ∷ digits 8 ∷ pairCells n
+
+-- code, time, reveal, limit, status, total quantity, pairs
+abbrev pub sixCells : ℕ → List Cell
+sixCells n = raw ∷ raw ∷ raw ∷ raw ∷ raw ∷ raw ∷ digits 12 ∷ raw ∷ raw ∷ raw ∷ digits 8 ∷ pairCells n
+
+-- the numbers in a body by their names
+abbrev pub codeOf : List ℕ → List ℕ
+codeOf vs = take 6 vs
+
+abbrev pub timeOf : List ℕ → ℕ
+timeOf vs = getD vs 6 0
+
+abbrev pub revealOf : List ℕ → ℕ
+revealOf vs = getD vs 7 0
+
+-- row 10: a level count is at most 5
+abbrev pub sixLevels : List ℕ → Bool
+sixLevels vs = leb (bidLevels (revealOf vs)) 5 && leb (askLevels (revealOf vs)) 5
+
+-- row 12: all nines stand exactly with code `000000`, the day's last frame; else a time of day
+abbrev pub sixTimed : List ℕ → Bool
+sixTimed vs = cond (zeroCode (codeOf vs)) (eqb (timeOf vs) (nines 6)) (timeOfDay 6 (timeOf vs))
+
+-- row 13: the code's bytes
+abbrev pub sixRuled : List ℕ → Bool
+sixRuled vs = codeRight (codeOf vs)
+
+-- the reveal byte's place in a body
+abbrev pub revealPlace : ℕ
+revealPlace = 12
+
+abbrev pub six : Format
+six = record {
+  number = 6;
+  version = 4;
+  least = 32;
+  most = 131;
+  cells = λ b. sixCells (pairCount (getD b revealPlace 0));
+  levels = sixLevels;
+  timed = sixTimed;
+  ruled = sixRuled;
+}
+
+-- a pair of numbers, the pairs of a list of numbers, and back
+abbrev pub pair : ℕ → ℕ → Pair
+pair p q = record { price = asPrice p; quantity = asQuantity q }
+
+abbrev pub noPair : Pair
+noPair = pair 0 0
+
+abbrev pub pairsOf : List ℕ → List Pair
+pairsOf [] = []
+pairsOf (p ∷ []) = []
+pairsOf (p ∷ q ∷ vs) = pair p q ∷ pairsOf vs
+
+abbrev pub flat : List Pair → List ℕ
+flat [] = []
+flat (x ∷ xs) = x .price .0 ∷ x .quantity .0 ∷ flat xs
+
+-- the pairs that n cells of pairs hold
+abbrev pub pairsIn : ℕ → List ℕ → List Pair
+pairsIn n bs = pairsOf (decode (pairCells n) bs)
+
+-- the levels of a side, best first, and zeros up to its room
+abbrev pub sideRoom : ℕ
+sideRoom = 5
+
+abbrev pub padded : List Pair → List Pair
+padded l = l ++ replicate (sideRoom - length l) noPair
+
+-- the pairs of a reveal byte's three parts, in the order trade, bids, asks
+abbrev pub tradePart : ℕ → List Pair → List Pair
+tradePart reveal ps = take (trades reveal) ps
+
+abbrev pub bidPart : ℕ → List Pair → List Pair
+bidPart reveal ps = take (bidLevels reveal) (drop (trades reveal) ps)
+
+abbrev pub askPart : ℕ → List Pair → List Pair
+askPart reveal ps = take (askLevels reveal) (drop (bidLevels reveal) (drop (trades reveal) ps))
+
+-- the message
+abbrev pub quoteOf : ℕ → List ℕ → Quote
+quoteOf seq vs =
+    let r = revealOf vs in
+    let ps = pairsOf (drop 11 vs) in
+    record {
+      seq = seq;
+      code = codeOf vs;
+      time = timeOf vs;
+      reveal = r;
+      limit = getD vs 8 0;
+      status = getD vs 9 0;
+      total = asQuantity (getD vs 10 0);
+      trade = getD (tradePart r ps) 0 noPair;
+      bids = padded (bidPart r ps);
+      asks = padded (askPart r ps);
+    }
+
+-- the pairs that a message uses, and its numbers
+abbrev pub usedPairs : Quote → List Pair
+usedPairs m =
+    let r = m .reveal in
+    take (trades r) (m .trade ∷ []) ++ (take (bidLevels r) (m .bids) ++ take (askLevels r) (m .asks))
+
+abbrev pub quoteValues : Quote → List ℕ
+quoteValues m = m .code ++ (m .time ∷ m .reveal ∷ m .limit ∷ m .status ∷ m .total .0 ∷ flat (usedPairs m))
+
+-- the unused pairs are zero
+abbrev pub zeroPairs : List Pair → Bool
+zeroPairs ps = every (eqb 0) (flat ps)
+
+abbrev pub tidyQuote : Quote → Bool
+tidyQuote m =
+    let r = m .reveal in
+    zeroPairs (drop (trades r) (m .trade ∷ []))
+    && (zeroPairs (drop (bidLevels r) (m .bids)) && zeroPairs (drop (askLevels r) (m .asks)))
+
+abbrev pub sixCodec : Codec Quote
+sixCodec = record {
+  form = six;
+  seq = λ m. m .seq;
+  cells = λ m. sixCells (pairCount (m .reveal));
+  values = quoteValues;
+  tidy = tidyQuote;
+  message = quoteOf;
+}
+
+-- a message's arrays have their lengths
+pub record ShapedQuote (m : Quote) : Type 0 where
+  pub code-long : length (m .code) ≡ 6
+  pub bids-long : length (m .bids) ≡ sideRoom
+  pub asks-long : length (m .asks) ≡ sideRoom
+
+-- the empty quote, which stands beside a refusal
+abbrev pub noQuote : Quote
+noQuote = record {
+  seq = 0;
+  code = replicate 6 0;
+  time = 0;
+  reveal = 0;
+  limit = 0;
+  status = 0;
+  total = asQuantity 0;
+  trade = noPair;
+  bids = replicate sideRoom noPair;
+  asks = replicate sideRoom noPair;
+}
+
+unfoldable pub quoteReading : ℕ → List ℕ → QuoteReading
+quoteReading seq b = record {
+  answer = bodyAnswer six seq b;
+  quote = cond (eqb (firstFail (bodyRows six b)) 0) (quoteOf seq (valuesOf six b)) noQuote;
+}

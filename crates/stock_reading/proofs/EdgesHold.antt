@@ -1,0 +1,28 @@
+-- The starred edges hold, by computation.
+use mathlib.Core.Path.{refl}
+use Rattle.stock_quotes.specs.Quotes.{pairCells}
+use Rattle.stock_prices.specs.Prices.{slotsCells}
+use Rattle.stock_reading.specs.Reading.{formatOf, rows, answerOf, messageBy}
+use Rattle.stock_reading.specs.Edges.{Edges}
+
+pub edges-hold : Edges
+unfolding formatOf rows answerOf messageBy pairCells slotsCells
+edges-hold = record {
+  no-bytes = refl;
+  two-bytes = refl;
+  bad-length = refl;
+  not-27 = refl;
+  notice-accepted = refl;
+  notice-means = refl;
+  check-byte-18 = refl;
+  last-byte-0B = refl;
+  first-13 = refl;
+  halt-accepted = refl;
+  halt-means = refl;
+  reveal-A2-counts = refl;
+  reveal-A2 = refl;
+  reveal-DA-counts = refl;
+  reveal-DA = refl;
+  reveal-00 = refl;
+  reveal-60 = refl;
+}

@@ -1,0 +1,50 @@
+-- The starred edges of the paper that concern frames, as one list.
+use Prim.Native.Nat.{ℕ, _+_}
+use mathlib.Core.Path.{_≡_}
+use mathlib.Core.List.{List, [], _∷_}
+use lib.ListN.{take, replicate}
+use Rattle.stock_frame.specs.Writing.{frameAround}
+use Rattle.answers.specs.declared.Answer.the-variants.{Accepted, NoFrame, Refused}
+use Rattle.stock_notices.specs.Notices.{fiveCodec, noNotice}
+use Rattle.stock_quotes.specs.Quotes.{trades, bidLevels, askLevels, pairCount}
+use Rattle.stock_halts.specs.Halts.{nineteenCodec, noHalt}
+use Rattle.stock_halts.specs.declared.Event.the-variants.{Halted}
+use Rattle.stock_halts.specs.declared.Resume.the-variants.{Open}
+use Rattle.stock_halts.specs.declared.Sending.the-variants.{Instant}
+use Rattle.stock_reading.specs.Reading.{answerOf, messageBy}
+
+-- the 14-byte notice of the listing, with its check byte and its last byte
+abbrev pub notice : ℕ → ℕ → List ℕ
+notice check last = 0x1B ∷ 0x00 ∷ 0x14 ∷ 0x01 ∷ 0x05 ∷ 0x01 ∷ 0x00 ∷ 0x00 ∷ 0x00 ∷ 0x01 ∷ 0x09 ∷ check ∷ 0x0D ∷ last ∷ []
+
+-- the halt of stock 1234 at 10:05:00, still open, sent at once
+abbrev pub halted : List ℕ
+halted =
+    0x1B ∷ 0x00 ∷ 0x26 ∷ 0x01 ∷ 0x19 ∷ 0x01 ∷ 0x00 ∷ 0x00 ∷ 0x00 ∷ 0x01 ∷ 0x31 ∷ 0x32 ∷ 0x33 ∷ 0x34 ∷ 0x20 ∷ 0x20
+    ∷ 0x10 ∷ 0x05 ∷ 0x00 ∷ 0x99 ∷ 0x99 ∷ 0x99 ∷ 0x49 ∷ 0xFF ∷ 0x0D ∷ 0x0A ∷ []
+
+-- a quote of stock 1234 at midnight with a reveal byte and n pairs of zeros
+abbrev pub quote : ℕ → ℕ → List ℕ
+quote reveal n =
+    frameAround 6 4 1
+    (0x31 ∷ 0x32 ∷ 0x33 ∷ 0x34 ∷ 0x20 ∷ 0x20 ∷ 0x00 ∷ 0x00 ∷ 0x00 ∷ 0x00 ∷ 0x00 ∷ 0x00 ∷ reveal ∷ 0x00 ∷ 0x00 ∷ replicate (4 + n) 0)
+
+pub record Edges : Type 0 where
+  pub no-bytes : answerOf [] ≡ NoFrame 2
+  pub two-bytes : answerOf (0x1B ∷ 0x0A ∷ []) ≡ NoFrame 2
+  pub bad-length : answerOf (0x1B ∷ 0x0A ∷ 0x14 ∷ []) ≡ NoFrame 3
+  pub not-27 : answerOf (0x41 ∷ []) ≡ NoFrame 1
+  pub notice-accepted : answerOf (notice 0x19 0x0A) ≡ Accepted (record { format = 5; seq = 1; length = 14 })
+  pub notice-means : messageBy fiveCodec noNotice (notice 0x19 0x0A) ≡ record { seq = 1; category = 9; length = 0; text = replicate 60 0 }
+  pub check-byte-18 : answerOf (notice 0x18 0x0A) ≡ NoFrame 5
+  pub last-byte-0B : answerOf (notice 0x19 0x0B) ≡ NoFrame 4
+  pub first-13 : answerOf (take 13 (notice 0x19 0x0A)) ≡ NoFrame 2
+  pub halt-accepted : answerOf halted ≡ Accepted (record { format = 19; seq = 1; length = 26 })
+  pub halt-means : messageBy nineteenCodec noHalt halted
+      ≡ record { seq = 1; code = 0x31 ∷ 0x32 ∷ 0x33 ∷ 0x34 ∷ 0x20 ∷ 0x20 ∷ []; event = Halted 100500 Open; state = Instant }
+  pub reveal-A2-counts : trades 0xA2 ∷ bidLevels 0xA2 ∷ askLevels 0xA2 ∷ pairCount 0xA2 ∷ [] ≡ 1 ∷ 2 ∷ 1 ∷ 4 ∷ []
+  pub reveal-A2 : answerOf (quote 0xA2 36) ≡ Accepted (record { format = 6; seq = 1; length = 68 })
+  pub reveal-DA-counts : pairCount 0xDA ≡ 11
+  pub reveal-DA : answerOf (quote 0xDA 99) ≡ Accepted (record { format = 6; seq = 1; length = 131 })
+  pub reveal-00 : answerOf (quote 0x00 0) ≡ Accepted (record { format = 6; seq = 1; length = 32 })
+  pub reveal-60 : answerOf (quote 0x60 54) ≡ Refused 10 86

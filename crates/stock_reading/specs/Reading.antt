@@ -1,0 +1,63 @@
+-- What a reading may say of the bytes from a place: the checks in their order, and the message of an accepted frame.
+use Prim.Native.Nat.{ℕ, _+_}
+use mathlib.Core.Bool.{Bool, cond, _&&_, _||_}
+use mathlib.Core.List.{List, [], _∷_, _++_}
+use lib.ListN.{length}
+use lib.Dec.{eqb}
+use Rattle.layout.specs.Rows.{Row, must, firstFail}
+use Rattle.answers.specs.Answers.{named}
+use Rattle.stock_frame.specs.Outline.{lengthOf, own, body, business, format, version, number, outlineRows}
+use Rattle.stock_frame.specs.Format.{Format, valuesOf, bodyRows}
+use Rattle.stock_frame.specs.Codec.{Codec}
+use Rattle.answers.specs.declared.Answer.{Answer}
+use Rattle.stock_notices.specs.Notices.{five, fiveCodec, noNotice}
+use Rattle.stock_notices.specs.declared.NoticeReading.{NoticeReading}
+use Rattle.stock_quotes.specs.Quotes.{six, sixCodec, noQuote}
+use Rattle.stock_quotes.specs.declared.quote.QuoteReading.{QuoteReading}
+use Rattle.stock_prices.specs.Prices.{twelve, twelveCodec, noPrices}
+use Rattle.stock_prices.specs.declared.PricesReading.{PricesReading}
+use Rattle.stock_halts.specs.Halts.{nineteen, nineteenCodec, noHalt}
+use Rattle.stock_halts.specs.declared.HaltReading.{HaltReading}
+
+-- the four formats by their numbers; row 7 keeps every other number away
+unfoldable pub formatOf : ℕ → Format
+formatOf n = cond (eqb n 6) six (cond (eqb n 12) twelve (cond (eqb n 19) nineteen five))
+
+abbrev pub isFormat : ℕ → Bool
+isFormat n = eqb n 5 || (eqb n 6 || (eqb n 12 || eqb n 19))
+
+-- business 01 and one of the four formats, then its version
+abbrev pub kindRows : ℕ → ℕ → ℕ → List Row
+kindRows business format version =
+    must 7 (eqb business 1 && isFormat format)
+    ∷ must 8 (eqb version (formatOf format .version))
+    ∷ []
+
+-- the paper's table: rows 2 to 6, rows 7 and 8, and rows 9 to 13 of the format
+unfoldable pub rows : List ℕ → List Row
+rows t =
+    let f = own t in
+    outlineRows t ++ (kindRows (business f) (format f) (version f) ++ bodyRows (formatOf (format f)) (body f))
+
+-- the answer: the first row that fails, or acceptance
+unfoldable pub answerOf : List ℕ → Answer
+answerOf t = named (firstFail (rows t)) (record { format = format (own t); seq = number (own t); length = lengthOf t })
+
+-- the message of an accepted frame of a codec's format; of anything else, none
+unfoldable pub messageBy : {M : Type 0} → Codec M → M → List ℕ → M
+messageBy C none t =
+    let f = own t in
+    cond (eqb (firstFail (rows t)) 0 && eqb (format f) (C .form .number)) (C .message (number f) (valuesOf (C .form) (body f))) none
+
+-- a reading of any frame, with the message if it is of the format that is asked for
+abbrev pub noticeAt : List ℕ → NoticeReading
+noticeAt t = record { answer = answerOf t; notice = messageBy fiveCodec noNotice t }
+
+abbrev pub quoteAt : List ℕ → QuoteReading
+quoteAt t = record { answer = answerOf t; quote = messageBy sixCodec noQuote t }
+
+abbrev pub pricesAt : List ℕ → PricesReading
+pricesAt t = record { answer = answerOf t; prices = messageBy twelveCodec noPrices t }
+
+abbrev pub haltAt : List ℕ → HaltReading
+haltAt t = record { answer = answerOf t; halt = messageBy nineteenCodec noHalt t }

@@ -1,0 +1,62 @@
+-- `numbers::say_runs` is safe and ends: the places go up to the count.
+use Prim.Native.Nat.{_-_, _≤_}
+use borrow.Author.Needs.{needs}
+use Rattle.test_numbers.proofs.say_runs.Statement.{statement}
+use Rattle.test_numbers.proofs.say_runs.Tie as tie
+
+abbrev Inv-loop : tie.InvT-loop
+Inv-loop ledger count place₀ place = place ≤ count
+
+abbrev μ-loop : tie.MeasureT-loop
+μ-loop ledger count place₀ place = count - place
+
+runs-requires : tie.Need-runs-requires Inv-loop μ-loop
+runs-requires c κs = search needs
+
+count-of-requires : tie.Need-count-of-requires Inv-loop μ-loop
+count-of-requires c κs = search needs
+
+loop-holds : tie.Need-loop-holds Inv-loop μ-loop
+loop-holds c = search needs
+
+run-requires : tie.Need-run-requires Inv-loop μ-loop
+run-requires c κs = search needs
+
+say-run-requires : tie.Need-say-run-requires Inv-loop μ-loop
+say-run-requires c κs = search needs
+
+add-place : tie.Need-add-place Inv-loop μ-loop
+add-place c = search needs
+
+loop-less : tie.Need-loop-less Inv-loop μ-loop
+loop-less c = search needs
+
+loop-again : tie.Need-loop-again Inv-loop μ-loop
+loop-again c = search needs
+
+run-requires-2 : tie.Need-run-requires-2 Inv-loop μ-loop
+run-requires-2 c κs = search needs
+
+say-run-requires-2 : tie.Need-say-run-requires-2 Inv-loop μ-loop
+say-run-requires-2 c κs = search needs
+
+returns : tie.Need-returns Inv-loop μ-loop
+returns c = search needs
+
+pub say-runs-spec : {M : Type 1} → statement M
+say-runs-spec =
+    tie.close
+    (tie.spec
+    Inv-loop
+    μ-loop
+    runs-requires
+    count-of-requires
+    loop-holds
+    run-requires
+    say-run-requires
+    add-place
+    loop-less
+    loop-again
+    run-requires-2
+    say-run-requires-2
+    returns)
