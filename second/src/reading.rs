@@ -29,8 +29,8 @@ pub enum Refusal {
     Field = 13,
 }
 
-/// A message is looked at where it was read; a box would cost an allocation for each frame.
-#[allow(clippy::large_enum_variant)]
+/// A message is looked at where it was read.
+#[expect(clippy::large_enum_variant, reason = "a box would cost an allocation for each frame")]
 #[derive(Clone, Copy, Debug, PartialEq, Eq)]
 pub enum Message {
     Five(Notice),
@@ -60,7 +60,7 @@ impl Message {
     }
 }
 
-#[allow(clippy::large_enum_variant)]
+#[expect(clippy::large_enum_variant, reason = "a box would cost an allocation for each frame, as in a message")]
 #[derive(Clone, Copy, Debug, PartialEq, Eq)]
 pub enum Answer {
     Accepted { length: usize, message: Message },

@@ -6,8 +6,8 @@ use crate::outcome::{read, Answer, Frame, NotWritten};
 use crate::prices::{read_prices, write_prices, Prices};
 use crate::quote::{read_quote, write_quote, Quote};
 
-/// A message is looked at where it was read; a box would cost an allocation for each frame.
-#[allow(clippy::large_enum_variant)]
+/// A message is looked at where it was read.
+#[expect(clippy::large_enum_variant, reason = "a box would cost an allocation for each frame")]
 #[derive(Clone, Copy, Debug, PartialEq, Eq, Hash)]
 pub enum Message {
     Notice(Notice),
