@@ -1,26 +1,22 @@
 #!/usr/bin/env python3
-"""Makes crates/gaps/stdin, a noisy closed line, and crates/gaps/stdout, the numbers of format six that are missing on it.
+"""Makes the stored input of the program gaps, a noisy closed line, and its output, the numbers of format six that are missing.
 
 The line is put together from cases, one function each, in the order in which they stand in the file. A case gives parts: some
 bytes, and what is to become of the number in them: "new", "repeat", 21, 22, or None where no frame of format six is accepted.
-The report is made a second way: the plain reading and walk of tests/listing/make.py find the frames, and a plain set keeps the
-numbers. Both ways have to agree arrival for arrival before anything is written. Nothing is taken from the program's output.
+The report is made a second way: the reference reader (tests/reference) finds the frames, and a plain set keeps the numbers.
+Both ways have to agree arrival for arrival before anything is written. Nothing is taken from the program's output.
 
 make.py           writes the two files
 make.py --check   compares instead, and exits 1 on a difference
 """
 
 import collections
-import importlib.util
 import itertools
 import pathlib
+import sys
 
-TESTS = pathlib.Path(__file__).resolve().parents[1]
-CRATE = TESTS.parent / "crates" / "gaps"
-
-spec = importlib.util.spec_from_file_location("listing_make", TESTS / "listing" / "make.py")
-plain = importlib.util.module_from_spec(spec)
-spec.loader.exec_module(plain)
+sys.path.append(str(pathlib.Path(__file__).resolve().parents[1]))
+from reference import frames, reader, stored
 
 MOST_RUNS = 64
 
@@ -59,15 +55,15 @@ def report(numbers, answers):
 # The cases, in the order in which they stand in the line.
 
 def six(answer, n, reveal=0xA2):
-    return plain.frame("06", plain.quote(reveal), f"{n:08}"), answer
+    return frames.frame("06", frames.quote(reveal), f"{n:08}"), answer
 
 
 def last_of_day(answer, n):
-    return plain.frame("06", plain.quote(code=b"000000", time=plain.NINES), f"{n:08}"), answer
+    return frames.frame("06", frames.quote(code=b"000000", time=frames.NINES), f"{n:08}"), answer
 
 
 def other(form, body, n):
-    return plain.frame(form, body, f"{n:08}"), None
+    return frames.frame(form, body, f"{n:08}"), None
 
 
 def beginning():
@@ -96,16 +92,16 @@ def late_ones():
 def no_arrivals():
     """Number 0, other formats, and frames of format six that are refused or cut up, with numbers that would else count."""
     yield six(21, 0)
-    yield other("05", plain.notice("09", b"text"), 13)
-    yield other("12", plain.table(plain.slot()), 14)
-    yield other("19", plain.halt(), 15)
-    yield other("05", plain.notice("00"), 99999999)
-    yield other("19", plain.halt(), 0)
-    yield plain.frame("06", plain.quote(0xA2), "00000013", version="03"), None  # 8
-    yield plain.frame("06", plain.quote(0x60), "00000014"), None  # 10
-    yield plain.frame("06", plain.quote(time="240000000000"), "00000015"), None  # 12
-    yield plain.frame("06", plain.quote(), "00000016", check=0xEE), None  # 5
-    yield plain.frame("06", plain.quote(), "00000017")[1:], None
+    yield other("05", frames.notice("09", b"text"), 13)
+    yield other("12", frames.table(frames.slot()), 14)
+    yield other("19", frames.halt(), 15)
+    yield other("05", frames.notice("00"), 99999999)
+    yield other("19", frames.halt(), 0)
+    yield frames.frame("06", frames.quote(0xA2), "00000013", version="03"), None  # 8
+    yield frames.frame("06", frames.quote(0x60), "00000014"), None  # 10
+    yield frames.frame("06", frames.quote(time="240000000000"), "00000015"), None  # 12
+    yield frames.frame("06", frames.quote(), "00000016", check=0xEE), None  # 5
+    yield frames.frame("06", frames.quote(), "00000017")[1:], None
     yield six(21, 0)
     yield b"~" * 3000, None
 
@@ -139,7 +135,7 @@ def many_runs():
     yield six(22, 100)
     yield six("new", 17)
     yield six("new", 100)
-    yield other("05", plain.notice("90"), 50)
+    yield other("05", frames.notice("90"), 50)
     yield six("new", 301)
 
 
@@ -177,7 +173,7 @@ def full_at_the_end():
 
 def cut_at_the_end():
     """A frame that the line's end cuts does not arrive; one inside it does."""
-    yield plain.packed("1B1024") + b"o" * 20, None
+    yield frames.packed("1B1024") + b"o" * 20, None
     yield six("new", 1501)
     data, _ = six(None, 70000000)
     yield data[:-1], None
@@ -195,7 +191,7 @@ def main():
             line += data
 
     numbers, found = set(), []
-    for at, answer, _, message in plain.walk(line):
+    for at, answer, _, message in reader.walk(line):
         if answer == 0 and message["format"] == 6:
             found.append((at, arrive(numbers, message["seq"])))
     for (case, *one), (*other,) in itertools.zip_longest(meant, found, fillvalue=("no case", None)):
@@ -205,7 +201,7 @@ def main():
     assert len(missing_runs(numbers)) == MOST_RUNS
     assert len(line) > 65536
 
-    plain.keep(CRATE, line, report(numbers, answers))
+    stored.keep_program("gaps", line, report(numbers, answers))
     counts = ", ".join(f"{answer}: {answers[answer]}" for answer in ("new", "repeat", 21, 22))
     print(f"{len(line)} bytes, {len(missing_runs(numbers))} missing runs; arrivals by answer: {counts}")
 

@@ -25,7 +25,7 @@ static bool filled(const void *memory, size_t size)
 #define FILL(thing) memset(&(thing), 0xA5, sizeof(thing))
 #define FILLED(thing) filled(&(thing), sizeof(thing))
 
-// The paper's notice and halt, and the specification's fourth example of a quote with the check byte that the rule gives.
+// The notice and halt of docs/RULES.md, and the specification's fourth example of a quote with the check byte that the rule gives.
 static const uint8_t NOTICE[14] = {0x1B, 0x00, 0x14, 0x01, 0x05, 0x01, 0x00, 0x00, 0x00, 0x01, 0x09, 0x19, 0x0D, 0x0A};
 static const uint8_t HALT[26] = {0x1B, 0x00, 0x26, 0x01, 0x19, 0x01, 0x00, 0x00, 0x00, 0x01, 0x31, 0x32, 0x33, 0x34,
                                  0x20, 0x20, 0x10, 0x05, 0x00, 0x99, 0x99, 0x99, 0x49, 0xFF, 0x0D, 0x0A};
@@ -234,7 +234,7 @@ static bool tally_is(trivsome_tally t, uint64_t accepted, uint64_t refused, uint
 
 static void walking(void)
 {
-    // the paper's line of 16 bytes, move by move, open and closed, and its tally
+    // the line of 16 bytes in docs/RULES.md, move by move, open and closed, and its tally
     uint8_t line[16] = {0x41, 0x42};
     memcpy(line + 2, NOTICE, 14);
     HOLDS(trivsome_move(line, 16, 0, false) == outcome(1, 0, 1, 0));

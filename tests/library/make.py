@@ -1,24 +1,21 @@
 #!/usr/bin/env python3
 """Makes tests/library/quotes, what examples/quotes.c has to print of samples/capture.
 
-The frames are found and read by the plain reading and walk of tests/listing/make.py; nothing is taken from the library.
+The frames are found and read by the reference reader (tests/reference); nothing is taken from the library.
 
 make.py           writes the file
 make.py --check   compares instead, and exits 1 on a difference
 make.py FILE      prints the quotes of any file
 """
 
-import importlib.util
 import pathlib
 import sys
 
-TESTS = pathlib.Path(__file__).resolve().parents[1]
-STORED = TESTS / "library" / "quotes"
-SAMPLE = TESTS.parent / "samples" / "capture"
+sys.path.append(str(pathlib.Path(__file__).resolve().parents[1]))
+from reference import reader, stored
 
-spec = importlib.util.spec_from_file_location("listing_make", TESTS / "listing" / "make.py")
-plain = importlib.util.module_from_spec(spec)
-spec.loader.exec_module(plain)
+STORED = stored.ROOT / "tests" / "library" / "quotes"
+SAMPLE = stored.ROOT / "samples" / "capture"
 
 
 def best(pairs):
@@ -32,7 +29,7 @@ def shown(m):
 
 
 def quotes(line):
-    messages = (message for _, answer, _, message in plain.walk(line) if answer == 0)
+    messages = (message for _, answer, _, message in reader.walk(line) if answer == 0)
     return "".join(shown(m) for m in messages if m["format"] == 6)
 
 
@@ -42,10 +39,7 @@ def main():
         sys.stdout.write(quotes(pathlib.Path(words[0]).read_bytes()))
         return
     text = quotes(SAMPLE.read_bytes())
-    if not words:
-        STORED.write_text(text)
-    elif not STORED.is_file() or STORED.read_text() != text:
-        sys.exit(f"{STORED} differs from what is made")
+    stored.keep({STORED: text.encode()})
     print(f"{text.count(chr(10))} quotes")
 
 

@@ -45,7 +45,8 @@ expect 0 "$work/calls"
 
 expect 0 "$work/quotes" samples/capture >"$work/out"
 cmp "$work/out" tests/library/quotes || differs "the quotes of samples/capture are printed otherwise"
-for line in crates/listing/stdin crates/messages/stdin crates/gaps/stdin; do
+for name in listing messages gaps; do
+    line=$(python3 tests/reference/stored.py $name)/stdin
     python3 tests/library/make.py $line >"$work/expected" || differs "tests/library/make.py failed"
     expect 0 "$work/quotes" $line >"$work/out"
     cmp "$work/out" "$work/expected" || differs "the quotes of $line are printed otherwise"

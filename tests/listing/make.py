@@ -1,10 +1,10 @@
 #!/usr/bin/env python3
-"""Makes crates/listing/stdin, a noisy closed line, and crates/listing/stdout, its listing.
+"""Makes the stored input of the program listing, a noisy closed line, and its output.
 
 The line is put together from cases, one function each, in the order in which they stand in the file. A case gives parts:
-some bytes, and the answer that they are made for. The listing is made a second way, by a plain reading and walk written
-from the paper (docs/RULES.md) and the exchange's specification B.12.07, and both ways have to agree row for row before
-anything is written. Nothing is taken from the program's output.
+some bytes, and the answer that they are made for. The listing is made a second way, by the reference reader
+(tests/reference), and both ways have to agree row for row before anything is written. Nothing is taken from the program's
+output.
 
 make.py           writes the two files
 make.py --check   compares instead, and exits 1 on a difference
@@ -15,171 +15,14 @@ import itertools
 import pathlib
 import sys
 
-CRATE = pathlib.Path(__file__).resolve().parents[2] / "crates" / "listing"
+sys.path.append(str(pathlib.Path(__file__).resolve().parents[1]))
+from reference import refusals, stored
+from reference.frames import (CYCLE_END, MARK, NINES, NOTICE, frame, good, halt, noise, notice, packed, patched, quote, refused,
+                              slot, table)
+from reference.reader import read, walk, xor
 
 # ---------------------------------------------------------------------------------------------------------------------
-# The reading: the rows of "What a reading answers" in their order. An answer is (number, length, message); the length is
-# None for 1 to 5, and the message is None unless the number is 0.
-
-ESC = 27
-FORMATS = {  # format: version, least length, greatest length
-    5: (1, 14, 74),
-    6: (4, 32, 131),
-    12: (3, 374, 374),
-    19: (1, 26, 26),
-}
-
-
-def digits(data):
-    """The number that packed digits say, or None if a half is above 9."""
-    text = data.hex()
-    return int(text) if text.isdecimal() else None
-
-
-def price(data):
-    """A price has nine digits in five bytes; the first half has to be 0."""
-    return None if data[0] >= 0x10 else digits(data)
-
-
-def xor(data):
-    x = 0
-    for b in data:
-        x ^= b
-    return x
-
-
-def time_of_day(time, fraction):
-    """Whether a number HHMMSS, with so many digits of fraction behind it, is a time of day."""
-    clock = time // 10 ** fraction
-    return clock // 10000 <= 23 and clock // 100 % 100 <= 59 and clock % 100 <= 59
-
-
-def printable(code):
-    return all(32 <= b <= 126 for b in code)
-
-
-def read(data):
-    """What a reading says of the bytes from a place on."""
-    if len(data) == 0:
-        return 2, None, None
-    if data[0] != ESC:
-        return 1, None, None
-    if len(data) < 3:
-        return 2, None, None
-    length = digits(data[1:3])
-    if length is None or not 14 <= length <= 1024:
-        return 3, None, None
-    if len(data) < length:
-        return 2, None, None
-    if data[length - 2:length] != b"\x0d\x0a":
-        return 4, None, None
-    if data[length - 3] != xor(data[1:length - 3]):
-        return 5, None, None
-    answer, message = read_whole(data[:length])
-    return answer, length, message
-
-
-def read_whole(whole):
-    """Rows 6 to 13, for a frame whose outline is whole."""
-    if digits(whole[3:10]) is None:
-        return 6, None
-    business, form, version, seq = (digits(whole[a:b]) for a, b in ((3, 4), (4, 5), (5, 6), (6, 10)))
-    if business != 1 or form not in FORMATS:
-        return 7, None
-    right_version, least, greatest = FORMATS[form]
-    if version != right_version:
-        return 8, None
-    if not least <= len(whole) <= greatest:
-        return 9, None
-    body = whole[10:-3]
-    answer, fields = {5: read_five, 6: read_six, 12: read_twelve, 19: read_nineteen}[form](body)
-    if answer != 0:
-        return answer, None
-    return 0, dict(format=form, seq=seq, **fields)
-
-
-def read_five(body):
-    category = digits(body[:1])
-    if category is None:
-        return 11, None
-    if category not in (0, 9, 90, 99):
-        return 13, None
-    return 0, dict(category=category, text=body[1:])
-
-
-def read_six(body):
-    code, reveal, limit, status = body[:6], body[12], body[13], body[14]
-    trade, bids, asks = reveal >> 7, reveal >> 4 & 7, reveal >> 1 & 7
-    if bids > 5 or asks > 5:
-        return 10, None
-    if len(body) != 19 + 9 * (trade + bids + asks):
-        return 9, None
-    time, total = digits(body[6:12]), digits(body[15:19])
-    pairs = [(price(body[i:i + 5]), digits(body[i + 5:i + 9])) for i in range(19, len(body), 9)]
-    if None in (time, total) or any(None in pair for pair in pairs):
-        return 11, None
-    nines = time == 999999999999
-    if nines != (code == b"000000") or not nines and not time_of_day(time, 6):
-        return 12, None
-    if not printable(code):
-        return 13, None
-    return 0, dict(code=code, time=time, reveal=reveal, limit=limit, status=status, total=total, trade=pairs[:trade],
-                   bids=pairs[trade:trade + bids], asks=pairs[trade + bids:])
-
-
-def read_twelve(body):
-    count = digits(body[:1])
-    raw = [body[1 + 36 * i:37 + 36 * i] for i in range(10)]
-    codes = [s[:6] for s in raw]
-    prices = [[price(s[k:k + 5]) for k in (6, 11, 16, 21)] for s in raw]
-    totals = [digits(s[26:30]) for s in raw]
-    times = [digits(s[30:36]) for s in raw]
-    if count is None or None in totals or None in times or any(None in p for p in prices):
-        return 11, None
-    for i in range(10):
-        closing = i < count and times[i] == 999999999999
-        if not closing and not time_of_day(times[i], 6):
-            return 12, None
-    if not 1 <= count <= 10:
-        return 13, None
-    if not all(printable(code) for code in codes[:count]):
-        return 13, None
-    if any(s != b"      " + bytes(30) for s in raw[count:]):
-        return 13, None
-    return 0, dict(count=count, slots=list(zip(codes, prices, totals, times)))
-
-
-def read_nineteen(body):
-    code, halted, resumed, state = body[:6], digits(body[6:9]), digits(body[9:12]), body[12:]
-    if None in (halted, resumed):
-        return 11, None
-    round_end = halted == resumed == 999999
-    if not round_end:
-        if not time_of_day(halted, 0):
-            return 12, None
-        if resumed != 999999 and not time_of_day(resumed, 0):
-            return 12, None
-    if state not in (b"C", b"I"):
-        return 13, None
-    if round_end and not all(48 <= b <= 57 for b in code):
-        return 13, None
-    if not printable(code):
-        return 13, None
-    return 0, dict(code=code, halted=halted, resumed=resumed, state=state, round_end=int(code) if round_end else None)
-
-
-# ---------------------------------------------------------------------------------------------------------------------
-# The walk of a closed line, and the listing.
-
-def walk(line):
-    """Every move over a closed line: place, answer, bytes, message."""
-    at = 0
-    while at < len(line):
-        answer, length, message = read(line[at:at + 1024])  # no frame is longer
-        step = 1 if length is None else length
-        yield at, answer, step, message
-        at += step
-
+# The listing of moves.
 
 def rows(moves):
     """The moves as rows; adjacent skipped bytes make one row, with the first one's reason."""
@@ -208,93 +51,10 @@ def listing(made):
 
 
 # ---------------------------------------------------------------------------------------------------------------------
-# Frames to build with. Packed fields are strings of digits, so that a bad digit can be put in as a letter.
+# The cases, in the order in which they stand in the line. Between `lengths` and `mixed_runs` come those of reference/refusals.py.
 
-VERSION = {"05": "01", "06": "04", "12": "03", "19": "01"}
-NINES = "9" * 12
-packed = bytes.fromhex
-
-
-def frame(form, body, seq="00000001", version=None, business="01", length=None, check=None, end=b"\x0d\x0a"):
-    """The common frame around a body; a length, check byte or end that is given stands in for the right one."""
-    length = length or f"{len(body) + 13:04}"
-    inner = packed(length + business + form + (version or VERSION.get(form, "01")) + seq) + body
-    return b"\x1b" + inner + bytes([xor(inner) if check is None else check]) + end
-
-
-def notice(category="00", text=b""):
-    return packed(category) + text
-
-
-def levels(n):
-    """So many pairs: price 99.50, 100.00 and so on, with 101, 102 and so on trading units."""
-    return b"".join(packed(f"{995000 + 5000 * k:010}{101 + k:08}") for k in range(n))
-
-
-def shown(reveal):
-    """How many pairs a reveal byte calls for."""
-    return (reveal >> 7) + (reveal >> 4 & 7) + (reveal >> 1 & 7)
-
-
-def quote(reveal=0x00, listed=None, code=b"2330  ", time="090415061278", limit=0, status=0x10, total="00016423"):
-    listed = levels(shown(reveal)) if listed is None else listed
-    return code + packed(time) + bytes([reveal, limit, status]) + packed(total) + listed
-
-
-def slot(code=b"1101  ", opening="0000125000", highest="0000128000", lowest="0000124000", last="0000125000",
-         total="00000008", time="091003554189"):
-    return code + packed(opening + highest + lowest + last + total + time)
-
-
-UNUSED = slot(b"      ", "0" * 10, "0" * 10, "0" * 10, "0" * 10, "0" * 8, "0" * 12)
-CYCLE_END = slot(b"000000", "0" * 10, "0" * 10, "0" * 10, "0" * 10, "0" * 8, "0" * 12)
-
-
-def table(*slots, count=None):
-    """A body of format twelve: the slots, then unused ones up to ten; the count is theirs unless another is given."""
-    count = count or f"{len(slots):02}"
-    return packed(count) + b"".join(slots) + UNUSED * (10 - len(slots))
-
-
-def halt(code=b"2330  ", halted="091200", resumed="999999", state=b"I"):
-    return code + packed(halted + resumed) + state
-
-
-def patched(data, at, byte):
-    """The same bytes with another one at a place."""
-    return data[:at] + bytes([byte]) + data[at + 1:]
-
-
-# Parts: answer, bytes, and the format and number that an accepted frame's row has to show.
-
-numbers = itertools.count(1)
-
-
-def good(form, body, seq=None):
-    """A frame to accept. Frames that are given no number are numbered 1, 2 and so on as they come."""
-    seq = next(numbers) if seq is None else seq
-    return 0, frame(form, body, f"{seq:08}"), int(form), seq
-
-
-def refused(answer, form, body, **other):
-    """A frame whose outline is whole, and the answer that refuses it."""
-    return answer, frame(form, body, **other), "-", "-"
-
-
-def noise(answer, data):
-    """Bytes that are all skipped, and the answer at the first of them."""
-    return answer, data, "-", "-"
-
-
-NOTICE = frame("05", notice("09"))  # the paper's notice of 14 bytes
-MARK = packed("4142")  # two bytes of plain noise, "AB"
-
-# ---------------------------------------------------------------------------------------------------------------------
-# The cases, in the order in which they stand in the line.
-
-
-def the_papers_line():
-    """The 16 bytes of the paper's listing."""
+def the_rules_line():
+    """The 16 bytes of the listing in docs/RULES.md."""
     yield noise(1, packed("4142"))
     yield 0, packed("1B00140105010000000109190D0A"), 5, 1
 
@@ -383,7 +143,7 @@ def good_halts():
     yield good("19", halt(b"000002", "999999", "999999"))
     yield good("19", halt(b"000000", "999999", "999999", b"C"))
     yield good("19", halt(b"999999", "999999", "999999", b"C"))
-    # The paper's halt of 1234.
+    # The halt of 1234 in docs/RULES.md.
     yield 0, packed("1B00260119010000000131323334202010050099999949FF0D0A"), 19, 1
 
 
@@ -486,175 +246,6 @@ def lengths():
         yield good("05", notice())
 
 
-def refused_6():
-    """A bad digit in each half of bytes 4 to 10, also before another business and format."""
-    for half in range(14):
-        header = list("01" "05" "01" "00000001")
-        header[half] = "A" if half % 2 else "F"
-        header = "".join(header)
-        yield refused(6, header[2:4], notice("09"), business=header[:2], version=header[4:6], seq=header[6:])
-    yield refused(6, "99", notice("0A"), business="99", seq="0000000B")
-
-
-def refused_7():
-    """Another business, or another format; before the version and the length."""
-    for business in ("00", "02", "10", "99"):
-        yield refused(7, "05", notice("09"), business=business)
-    for form in ("00", "01", "04", "07", "11", "13", "17", "18", "20", "50", "99"):
-        yield refused(7, form, notice("09"))
-    yield refused(7, "23", quote(0xFE, b""), version="99")
-
-
-def refused_8():
-    """Another version; before the length."""
-    yield refused(8, "05", notice("09"), version="00")
-    yield refused(8, "05", notice("09"), version="02")
-    yield refused(8, "06", quote(0xA2), version="03")
-    yield refused(8, "06", quote(0xA2), version="05")
-    yield refused(8, "12", table(slot()), version="02")
-    yield refused(8, "12", table(slot()), version="30")
-    yield refused(8, "19", halt(), version="02")
-    yield refused(8, "19", halt(), version="10")
-    yield refused(8, "19", halt() + b"x", version="04")
-
-
-def refused_9_range():
-    """A length outside the format's range; before the reveal byte and the digits."""
-    yield refused(9, "05", notice("00", b"j" * 61))
-    yield refused(9, "05", notice("0A", b"j" * 200))
-    yield refused(9, "06", b"k")
-    yield refused(9, "06", quote()[:-1])  # 31 bytes
-    yield refused(9, "06", quote(0xDA) + b"k")  # 132 bytes
-    yield refused(9, "06", quote(0x60, b"")[:-1])
-    yield refused(9, "06", quote(0x60, levels(11)) + b"k")
-    yield refused(9, "06", quote(0xEE, levels(13)))
-    yield refused(9, "12", packed("01"))
-    yield refused(9, "12", table(slot())[:-1])  # 373 bytes
-    yield refused(9, "12", table(slot()) + b"\x00")  # 375 bytes
-    yield refused(9, "19", halt()[:-1])  # 25 bytes
-    yield refused(9, "19", halt() + b"I")  # 27 bytes
-    yield refused(9, "19", b"l")
-
-
-def refused_10():
-    """Six or seven levels on a side; before the length that they would call for, and before the digits."""
-    for reveal in (0x60, 0x70, 0x0C, 0x0E, 0x66, 0xEE, 0xFF, 0x5C, 0xE2):
-        yield refused(10, "06", quote(reveal, levels(min(shown(reveal), 11))))
-    yield refused(10, "06", quote(0x60, b""))
-    yield refused(10, "06", quote(0x0E, b"m"))
-    yield refused(10, "06", quote(0x70, levels(7), b"\x00" * 6, "AAAAAAAAAAAA", total="BBBBBBBB"))
-
-
-def refused_9_reveal():
-    """A length that the reveal byte does not call for; before the digits."""
-    yield refused(9, "06", quote(0xA2, levels(3)))
-    yield refused(9, "06", quote(0xA2, levels(5)))
-    yield refused(9, "06", quote(0xA2, levels(4)[:-1]))
-    yield refused(9, "06", quote(0xA2, levels(4) + b"n"))
-    yield refused(9, "06", quote(0x00, levels(1)))
-    yield refused(9, "06", quote(0x01, b"n"))
-    yield refused(9, "06", quote(0x80, b""))
-    yield refused(9, "06", quote(0xDA, levels(10)))
-    yield refused(9, "06", quote(0xD6, levels(6)))  # the specification's example 5 prints D6 where its length calls for D0
-    yield refused(9, "06", quote(0x10, b"", time="A00000000000"))
-
-
-def refused_11_five_six_nineteen():
-    """A bad digit in a packed field of the body; before times and all else."""
-    for category in ("0A", "A0", "1B", "FF"):
-        yield refused(11, "05", notice(category))
-    for time in ("A90415061278", "0904150612F8", "09041506127F"):
-        yield refused(11, "06", quote(0xA2, time=time))
-    for total in ("A0016423", "0001642B"):
-        yield refused(11, "06", quote(0xA2, total=total))
-    # In the trade's pair and in the last ask's: a bad digit in the price, a price's first half that is not 0, a quantity.
-    for place in (0, 3):
-        for offset, byte in ((0, 0x10), (0, 0x90), (0, 0xA0), (0, 0x0A), (4, 0x0F), (5, 0xA0), (8, 0x0E)):
-            yield refused(11, "06", quote(0xA2, patched(levels(4), 9 * place + offset, byte)))
-    # The day's last frame with a bad digit; a bad digit, a wrong time and a wrong code at once.
-    yield refused(11, "06", quote(code=b"000000", time=NINES, total="9999999C"))
-    yield refused(11, "06", quote(code=b"\x00" * 6, time="250000000000", total="C0000000"))
-    for halted, resumed in (("A91200", "999999"), ("09120A", "999999"), ("091200", "F99999"), ("091200", "99999F"),
-                            ("999999", "99999A"), ("250000", "0A0000")):
-        yield refused(11, "19", halt(halted=halted, resumed=resumed, state=b"x"))
-
-
-def refused_11_twelve():
-    """Digits of all ten slots are looked at, whatever the count."""
-    body = table(slot(), slot(b"1102  "))
-    for count in ("0A", "A1"):
-        yield refused(11, "12", table(slot(), count=count))
-    # Slot, offset in the slot, byte: opening, highest, lowest, last with a first half that is not 0, total, time.
-    for place, offset, byte in ((0, 6, 0x10), (0, 11, 0x10), (0, 16, 0x10), (0, 21, 0x10), (0, 7, 0xA0), (0, 26, 0xA0),
-                                (0, 35, 0x0A), (1, 25, 0x0F), (2, 6, 0x10), (2, 29, 0x0A), (9, 21, 0x20), (9, 30, 0xA0),
-                                (9, 35, 0x0F)):
-        yield refused(11, "12", patched(body, 1 + 36 * place + offset, byte))
-    # A bad digit in the last slot, a wrong time in the first, a wrong count.
-    yield refused(11, "12", patched(table(slot(time="250000000000"), count="12"), 360, 0x0A))
-
-
-def refused_12():
-    """A time that breaks its rule; before all other fields."""
-    for time in ("240000000000", "006000000000", "000060000000", "236059999999", "990000000000", "999999000000",
-                 "999999999998", "099999999999"):
-        yield refused(12, "06", quote(0xA2, time=time))
-    # Nines stand exactly with the code 000000.
-    yield refused(12, "06", quote(0x00, time=NINES))
-    yield refused(12, "06", quote(0x00, code=b"00000 ", time=NINES))
-    yield refused(12, "06", quote(0x00, code=b"000000"))
-    yield refused(12, "06", quote(0x00, code=b"000000", time="999999999998"))
-    yield refused(12, "06", quote(0x00, code=b"\x7f" * 6, time=NINES))
-    for time in ("240000000000", "006000000000", "000060000000", "999999000000", "999999999998"):
-        yield refused(12, "12", table(slot(), slot(b"1102  ", time=time)))
-    # Nines in a slot after the count, the next one and the last; under a count of 00 no slot is counted.
-    body = table(slot(time=NINES))
-    yield refused(12, "12", body[:37 + 30] + packed(NINES) + body[37 + 36:])
-    yield refused(12, "12", body[:361 - 6] + packed(NINES))
-    yield refused(12, "12", table(slot(time=NINES), count="00"))
-    # No time of day in an unused slot; a wrong time and a wrong code, unused slot and count.
-    yield refused(12, "12", body[:361 - 6] + packed("000060000000"))
-    yield refused(12, "12", table(slot(b"\x00" * 6), slot(time="240000000000"), count="11"))
-    for halted in ("240000", "006000", "000060", "999998"):
-        yield refused(12, "19", halt(halted=halted))
-        yield refused(12, "19", halt(halted="091200", resumed=halted))
-    # Nines for the halt alone; and a wrong time with a wrong state and code.
-    yield refused(12, "19", halt(halted="999999", resumed="115700"))
-    yield refused(12, "19", halt(b"000002", halted="999999", resumed="999998"))
-    yield refused(12, "19", halt(b"\x00" * 6, halted="240000", state=b"x"))
-
-
-def refused_13():
-    """Every other field: category, codes, count, unused slots, state, and the code of a round's end."""
-    for category in ("01", "08", "10", "19", "89", "91", "98"):
-        yield refused(13, "05", notice(category, b"text"))
-    for byte in (0, 27, 31, 127, 128, 255):
-        yield refused(13, "06", quote(0xA2, code=patched(b"2330  ", 5, byte)))
-    yield refused(13, "06", quote(0xA2, code=b"\x1f2330 "))
-    # Counts of 00 and above 10; nines are times under a count above 10, which all slots are under.
-    yield refused(13, "12", table(slot(), count="00"))
-    yield refused(13, "12", table(count="00"))
-    yield refused(13, "12", table(*[slot(time=NINES)] * 10, count="11"))
-    yield refused(13, "12", table(*[slot()] * 10, count="99"))
-    yield refused(13, "12", table(slot(b"1101 \x1b")))
-    yield refused(13, "12", table(*[slot()] * 9, slot(b"\x7f1110 ")))
-    # A count that leaves a filled slot out, and one that takes an unused one in, which is no fault: spaces are a code.
-    yield refused(13, "12", table(slot(), slot(b"1102  "), count="01"))
-    yield good("12", table(slot(), count="02"))
-    # An unused slot's code of zero bytes, code 000000, price, total, time, and the tenth slot's last byte.
-    body = table(slot())
-    yield refused(13, "12", body[:37] + b"\x00" * 6 + body[43:])
-    yield refused(13, "12", body[:37] + b"000000" + body[43:])
-    for offset in (37 + 10, 37 + 15, 37 + 20, 37 + 25, 37 + 29, 37 + 35, 360):
-        yield refused(13, "12", patched(body, offset, 0x01))
-    for state in (b"c", b"i", b"X", b"\x00", b"\x1b"):
-        yield refused(13, "19", halt(state=state))
-    yield refused(13, "19", halt(b"000002", "999999", "999999", b"x"))
-    yield refused(13, "19", halt(b"2330 \x1f"))
-    yield refused(13, "19", halt(b"\x7f330  ", resumed="115700"))
-    for code in (b"2     ", b"00000A", b" 00002", b"00000/", b"00000:", b"\x00\x00\x00\x00\x00\x02"):
-        yield refused(13, "19", halt(code, "999999", "999999"))
-
-
 def mixed_runs():
     """Runs of skipped bytes whose later reasons differ from the first one's."""
     yield noise(1, MARK + NOTICE[:-1] + b"\x0b")  # 1, 1, 4, 1 ...
@@ -718,7 +309,7 @@ def cut_at_the_end():
 
 
 CASES = [
-    the_papers_line,
+    the_rules_line,
     good_notices,
     good_quotes,
     worked_quotes,
@@ -729,16 +320,7 @@ CASES = [
     wrong_ends,
     wrong_checks,
     lengths,
-    refused_6,
-    refused_7,
-    refused_8,
-    refused_9_range,
-    refused_10,
-    refused_9_reveal,
-    refused_11_five_six_nineteen,
-    refused_11_twelve,
-    refused_12,
-    refused_13,
+    *refusals.CASES,
     mixed_runs,
     dense_noise,
     many_buffers,
@@ -760,7 +342,7 @@ def the_line():
 
 
 # ---------------------------------------------------------------------------------------------------------------------
-# The paper's edges that concern frames.
+# The edges in docs/RULES.md that concern frames.
 
 def assert_edges():
     def answer(text):
@@ -784,24 +366,10 @@ def assert_edges():
     assert read(frame("06", quote(0x60)))[:2] == (10, 86)
     # 13 and 1,025 are no lengths; 14 and 1,024 pass that check, and wait for their bytes.
     assert [answer(f"1B {length}")[0] for length in ("0013", "1025", "0014", "1024")] == [3, 3, 2, 2]
-    # The paper's listing, byte for byte.
+    # The listing in docs/RULES.md, byte for byte.
     line = packed("41 42 1B 00 14 01 05 01 00 00 00 01 09 19 0D 0A")
     assert listing(rows(walk(line))) == b"at,answer,bytes,format,seq\n0,1,2,-,-\n2,0,14,5,1\ntotal,14,0,2\n"
     assert listing(rows(walk(b""))) == b"at,answer,bytes,format,seq\ntotal,0,0,0\n"
-
-
-def keep(crate, line, output):
-    """Writes a crate's stored input and output; with --check compares instead, and ends with status 1 on a difference."""
-    differs = False
-    for path, data in ((crate / "stdin", line), (crate / "stdout", output)):
-        if "--check" not in sys.argv[1:]:
-            path.parent.mkdir(parents=True, exist_ok=True)
-            path.write_bytes(data)
-        elif not path.is_file() or path.read_bytes() != data:
-            print(f"{path} differs from what the cases give")
-            differs = True
-    if differs:
-        sys.exit(1)
 
 
 def main():
@@ -815,7 +383,7 @@ def main():
     occurred = collections.Counter(answer for _, answer, _, _ in moves)
     assert sorted(occurred) == list(range(14)), "every answer has to occur"
 
-    keep(CRATE, line, listing(found))
+    stored.keep_program("listing", line, listing(found))
     counts = ", ".join(f"{answer}: {occurred[answer]}" for answer in sorted(occurred))
     print(f"{len(line)} bytes, {len(found)} rows; places by answer: {counts}")
 

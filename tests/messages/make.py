@@ -1,29 +1,26 @@
 #!/usr/bin/env python3
-"""Makes crates/messages/stdin, a noisy closed line, and crates/messages/stdout, the messages of its accepted frames as JSON.
+"""Makes the stored input of the program messages, a noisy closed line, and its output, the accepted frames' messages as JSON.
 
 The line is put together from cases, one function each, in the order in which they stand in the file. A case gives parts: some
 bytes, and the object that they are made for, stated from the fields that went into the frame, or None for noise and for
-frames to refuse. The objects are made a second way, by the plain reading and walk of tests/listing/make.py, and both ways have
-to agree object for object. The text is the standard library's JSON, read back before anything is written. Nothing is taken
-from the program's output.
+frames to refuse. The objects are made a second way, by the reference reader (tests/reference), and both ways have to agree
+object for object. The text is the standard library's JSON, read back before anything is written. Nothing is taken from the
+program's output.
 
 make.py           writes the two files
 make.py --check   compares instead, and exits 1 on a difference
 """
 
-import importlib.util
 import itertools
 import json
 import pathlib
+import sys
 
-TESTS = pathlib.Path(__file__).resolve().parents[1]
-CRATE = TESTS.parent / "crates" / "messages"
+sys.path.append(str(pathlib.Path(__file__).resolve().parents[1]))
+from reference import frames, reader, refusals, stored
+from reference.frames import NINES, packed
+
 SPARE = 4096  # the program writes its buffer out when less than this is left, so no object may be longer
-
-spec = importlib.util.spec_from_file_location("listing_make", TESTS / "listing" / "make.py")
-plain = importlib.util.module_from_spec(spec)
-spec.loader.exec_module(plain)
-packed, NINES = plain.packed, plain.NINES
 
 # ---------------------------------------------------------------------------------------------------------------------
 # Frames with the objects that they are made for. Fields are given as the object shows them, and packed from that.
@@ -34,7 +31,7 @@ numbers = itertools.count(1)
 def numbered(form, body, fields, seq=None):
     """A frame, and its object without its place. Frames that are given no number are numbered 1, 2 and so on as they come."""
     seq = next(numbers) if seq is None else seq
-    return plain.frame(form, body, f"{seq:08}"), dict(format=int(form), seq=seq, **fields)
+    return frames.frame(form, body, f"{seq:08}"), dict(format=int(form), seq=seq, **fields)
 
 
 def notice(category="00", text=b"", seq=None):
@@ -111,7 +108,7 @@ def notices():
     yield notice("99", b'"\\\n')
     for first in range(0, 256, 60):
         yield notice("00", bytes(range(first, min(first + 60, 256))))
-    yield notice("00", plain.NOTICE)  # a whole notice inside a notice's text belongs to the text
+    yield notice("00", frames.NOTICE)  # a whole notice inside a notice's text belongs to the text
     yield notice("00", seq=0)
     yield notice("00", seq=99999999)
 
@@ -175,10 +172,9 @@ def many_buffers():
 
 def between():
     """Noise, and a frame for each answer that refuses one, over and over."""
-    cases = (plain.refused_6, plain.refused_7, plain.refused_8, plain.refused_9_range, plain.refused_10, plain.refused_9_reveal,
-             plain.refused_11_five_six_nineteen, plain.refused_11_twelve, plain.refused_12, plain.refused_13)
-    refused = [data for case in cases for answer, data, _, _ in case() if answer != 0]
-    noises = [b"{}\n", packed("1B00131B"), plain.frame("05", b"\x09", check=0xEE), plain.frame("05", b"\x09", end=b"\x0d\x0d"), b""]
+    refused = [data for case in refusals.CASES for answer, data, _, _ in case() if answer != 0]
+    damaged = frames.frame("05", b"\x09", check=0xEE), frames.frame("05", b"\x09", end=b"\x0d\x0d")
+    noises = [b"{}\n", packed("1B00131B"), *damaged, b""]
     for n in itertools.count():
         yield refused[n % len(refused)] if n % 2 else noises[n // 2 % len(noises)]
 
@@ -209,7 +205,7 @@ def the_line():
 
 
 # ---------------------------------------------------------------------------------------------------------------------
-# The objects once more, from the messages of the plain reading.
+# The objects once more, from the messages of the reference reader.
 
 def clock(n):
     """HHMMSS."""
@@ -251,7 +247,7 @@ def object_of(at, m):
 
 def main():
     line, meant = the_line()
-    moves = list(plain.walk(line))
+    moves = list(reader.walk(line))
     found = [object_of(at, message) for at, answer, _, message in moves if answer == 0]
     for one, other in itertools.zip_longest(meant, found):
         assert one == other, f"made for {one}, and the reading says {other}"
@@ -267,7 +263,7 @@ def main():
     assert {answer for _, answer, _, _ in moves} == set(range(14)), "every answer has to occur"
     assert min(len(line), len(text)) > 65536
 
-    plain.keep(CRATE, line, text.encode("ascii"))
+    stored.keep_program("messages", line, text.encode("ascii"))
     print(f"{len(line)} bytes, {len(found)} objects; the longest takes {max(map(len, lines))} bytes, all of them {len(text)}")
 
 

@@ -1,5 +1,5 @@
 #!/usr/bin/env python3
-"""Makes crates/numbers/stdin and crates/numbers/stdout: series of arrivals, and what a ledger has to say of them.
+"""Makes the stored input and output of the program numbers: series of arrivals, and what a ledger has to say of them.
 
 The ledger here is a plain set of numbers. What is missing is found between the numbers of the sorted set; no record and no
 figures are kept, and nothing is taken from the program's output. Of records lent to the calls all small ones are tried:
@@ -13,7 +13,9 @@ import itertools
 import pathlib
 import sys
 
-CRATE = pathlib.Path(__file__).resolve().parents[2] / "crates" / "numbers"
+sys.path.append(str(pathlib.Path(__file__).resolve().parents[1]))
+from reference import stored
+
 MOST = 99_999_999
 
 
@@ -61,7 +63,7 @@ def shuffled(count, below, seed):
 def series():
     evens = list(range(2, 129, 2))
     yield []                                                             # a fresh ledger
-    yield [5, 2, 5]                                                      # the paper's starred edge
+    yield [5, 2, 5]                                                      # the edge in docs/RULES.md
     yield evens                                                          # 64 runs
     yield evens + [130, 129, 1, 131]                                     # the 65th is refused, a filled run gives its room back
     yield list(range(1, 21))                                             # in order
@@ -119,19 +121,8 @@ def files():
         else:
             lines_out.extend(["lent 20", "highest 20 heard 20 missing 20 runs 20", "run 0 20"])
     lines_out.extend(told(set()))
-    return {"stdin": "".join(l + "\n" for l in lines_in), "stdout": "".join(l + "\n" for l in lines_out)}
+    return ["".join(line + "\n" for line in lines).encode() for lines in (lines_in, lines_out)]
 
 
-def main():
-    failed = False
-    for name, text in files().items():
-        path = CRATE / name
-        if "--check" not in sys.argv[1:]:
-            path.write_bytes(text.encode())
-        elif not path.exists() or path.read_bytes() != text.encode():
-            print("%s is not what make.py makes" % path)
-            failed = True
-    sys.exit(1 if failed else 0)
-
-
-main()
+if __name__ == "__main__":
+    stored.keep_program("numbers", *files())

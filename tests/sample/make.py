@@ -6,24 +6,20 @@ make.py           writes the file
 make.py --check   compares instead, and exits 1 on a difference
 """
 
-import importlib.util
 import pathlib
 import sys
 
-ROOT = pathlib.Path(__file__).resolve().parents[2]
-SAMPLE = ROOT / "samples" / "capture"
+sys.path.append(str(pathlib.Path(__file__).resolve().parents[1]))
+from reference import stored
+from reference.frames import frame, halt, notice, packed, quote, slot, table
 
-# the builders of frames that the noisy line is made with
-spec = importlib.util.spec_from_file_location("noisy", ROOT / "tests" / "listing" / "make.py")
-noisy = importlib.util.module_from_spec(spec)
-spec.loader.exec_module(noisy)
-frame, notice, quote, slot, table, halt = noisy.frame, noisy.notice, noisy.quote, noisy.slot, noisy.table, noisy.halt
+SAMPLE = stored.ROOT / "samples" / "capture"
 
 
 def book(last, trade, levels):
     """The pairs of a quote around a price in ten-thousandths: the trade, if there is one, bids falling and asks rising."""
     prices = ([last] if trade else []) + [last - 5000 * k for k in range(1, levels[0] + 1)] + [last + 5000 * k for k in range(levels[1])]
-    return noisy.packed("".join(f"{price:010}{(price // 100) % 97 + 1:08}" for price in prices))
+    return packed("".join(f"{price:010}{(price // 100) % 97 + 1:08}" for price in prices))
 
 
 def the_line():
@@ -42,12 +38,7 @@ def the_line():
 
 def main():
     line = b"".join(the_line())
-    if "--check" in sys.argv[1:]:
-        if not SAMPLE.is_file() or SAMPLE.read_bytes() != line:
-            sys.exit(f"{SAMPLE} differs from what is made")
-    else:
-        SAMPLE.parent.mkdir(parents=True, exist_ok=True)
-        SAMPLE.write_bytes(line)
+    stored.keep({SAMPLE: line})
     print(f"{len(line)} bytes")
 
 

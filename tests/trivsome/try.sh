@@ -3,7 +3,8 @@
 # input, and a name that is no program. Prints what differs, and ends with status 1 if anything did.
 set -u
 cd "$(dirname "$0")/../.." || exit 2
-stored=crates/listing
+stored() { python3 tests/reference/stored.py "$1"; } # NAME: the folder of its stored input and output
+line=$(stored listing)/stdin
 work=$(mktemp -d) || exit 2
 trap 'rm -rf "$work"' EXIT
 wrong=0
@@ -24,19 +25,19 @@ expect() {
 
 listing() { ./trivsome listing 2>"$work/said"; }
 
-expect 0 listing <$stored/stdin >"$work/file"
-cmp "$work/file" $stored/stdout || differs "a file is listed otherwise"
+expect 0 listing <"$line" >"$work/file"
+cmp "$work/file" "$(stored listing)/stdout" || differs "a file is listed otherwise"
 
 for name in messages gaps; do
-    expect 0 ./trivsome $name <crates/$name/stdin >"$work/file"
-    cmp "$work/file" crates/$name/stdout || differs "$name prints something else"
-    if [ -c /dev/full ]; then expect 1 ./trivsome $name <crates/$name/stdin >/dev/full 2>"$work/said"; fi
+    expect 0 ./trivsome $name <"$(stored $name)/stdin" >"$work/file"
+    cmp "$work/file" "$(stored $name)/stdout" || differs "$name prints something else"
+    if [ -c /dev/full ]; then expect 1 ./trivsome $name <"$(stored $name)/stdin" >/dev/full 2>"$work/said"; fi
 done
 
 # pieces of 1 to 4,096 bytes
 for size in 1 1021 4096; do
-    head -c 70000 $stored/stdin | dd bs=$size 2>/dev/null | listing >"$work/pipe"
-    head -c 70000 $stored/stdin >"$work/part"
+    head -c 70000 "$line" | dd bs=$size 2>/dev/null | listing >"$work/pipe"
+    head -c 70000 "$line" >"$work/part"
     listing <"$work/part" >"$work/whole"
     cmp "$work/pipe" "$work/whole" || differs "pieces of $size bytes are listed otherwise"
 done
@@ -45,7 +46,7 @@ printf '' | listing >"$work/empty"
 printf 'at,answer,bytes,format,seq\ntotal,0,0,0\n' | cmp - "$work/empty" || differs "no input is listed otherwise"
 
 if [ -c /dev/full ]; then
-    expect 1 listing <$stored/stdin >/dev/full
+    expect 1 listing <"$line" >/dev/full
     grep -q 'cannot write' "$work/said" || differs "a full disk is not named"
 fi
 expect 1 listing </ >"$work/none"

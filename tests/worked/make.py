@@ -1,5 +1,5 @@
 #!/usr/bin/env python3
-"""Makes crates/worked/stdin and crates/worked/stdout from the exchange's worked examples.
+"""Makes the stored input and output of the program worked from the exchange's worked examples.
 
 The tables hold the fields as the exchange's specification B.12.07 prints them. Each record's bytes and its expected line are
 both made from those fields; no bytes are decoded here, and nothing is taken from the program's output.
@@ -11,7 +11,8 @@ make.py --check   compares instead, and exits 1 on a difference
 import pathlib
 import sys
 
-CRATE = pathlib.Path(__file__).resolve().parents[2] / "crates" / "worked"
+sys.path.append(str(pathlib.Path(__file__).resolve().parents[1]))
+from reference import stored
 
 # Format six, examples 1 to 4. Times and prices as the text gives them; the check byte as printed, and by the rule.
 SIX = [
@@ -239,18 +240,8 @@ def records():
 def main():
     made = list(records())
     assert bytes.fromhex(NOTICE_01) in [f for f, _ in made]
-    files = {
-        CRATE / "stdin": b"".join(len(f).to_bytes(2, "big") + f for f, _ in made),
-        CRATE / "stdout": b"".join(line.encode() + b"\n" for _, line in made),
-    }
-    differs = False
-    for path, data in files.items():
-        if "--check" not in sys.argv[1:]:
-            path.write_bytes(data)
-        elif not path.is_file() or path.read_bytes() != data:
-            print(f"{path} differs from what the tables give")
-            differs = True
-    sys.exit(1 if differs else 0)
+    given = b"".join(len(f).to_bytes(2, "big") + f for f, _ in made)
+    stored.keep_program("worked", given, b"".join(line.encode() + b"\n" for _, line in made))
 
 
 if __name__ == "__main__":

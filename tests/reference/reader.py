@@ -1,0 +1,168 @@
+"""The reference reader: the rules of docs/RULES.md and the exchange's specification B.12.07 once more, in plain Python.
+
+It shares nothing with the crates, nor with the second program. What a maker stores as a program's expected output is made with
+it, beside what each part of the line was made for, and both have to agree.
+"""
+
+# ---------------------------------------------------------------------------------------------------------------------
+# The reading: the rows of "What a reading answers" in their order. An answer is (number, length, message); the length is
+# None for 1 to 5, and the message is None unless the number is 0.
+
+ESC = 27
+FORMATS = {  # format: version, least length, greatest length
+    5: (1, 14, 74),
+    6: (4, 32, 131),
+    12: (3, 374, 374),
+    19: (1, 26, 26),
+}
+
+
+def digits(data):
+    """The number that packed digits say, or None if a half is above 9."""
+    text = data.hex()
+    return int(text) if text.isdecimal() else None
+
+
+def price(data):
+    """A price has nine digits in five bytes; the first half has to be 0."""
+    return None if data[0] >= 0x10 else digits(data)
+
+
+def xor(data):
+    x = 0
+    for b in data:
+        x ^= b
+    return x
+
+
+def time_of_day(time, fraction):
+    """Whether a number HHMMSS, with so many digits of fraction behind it, is a time of day."""
+    clock = time // 10 ** fraction
+    return clock // 10000 <= 23 and clock // 100 % 100 <= 59 and clock % 100 <= 59
+
+
+def printable(code):
+    return all(32 <= b <= 126 for b in code)
+
+
+def read(data):
+    """What a reading says of the bytes from a place on."""
+    if len(data) == 0:
+        return 2, None, None
+    if data[0] != ESC:
+        return 1, None, None
+    if len(data) < 3:
+        return 2, None, None
+    length = digits(data[1:3])
+    if length is None or not 14 <= length <= 1024:
+        return 3, None, None
+    if len(data) < length:
+        return 2, None, None
+    if data[length - 2:length] != b"\x0d\x0a":
+        return 4, None, None
+    if data[length - 3] != xor(data[1:length - 3]):
+        return 5, None, None
+    answer, message = read_whole(data[:length])
+    return answer, length, message
+
+
+def read_whole(whole):
+    """Rows 6 to 13, for a frame whose outline is whole."""
+    if digits(whole[3:10]) is None:
+        return 6, None
+    business, form, version, seq = (digits(whole[a:b]) for a, b in ((3, 4), (4, 5), (5, 6), (6, 10)))
+    if business != 1 or form not in FORMATS:
+        return 7, None
+    right_version, least, greatest = FORMATS[form]
+    if version != right_version:
+        return 8, None
+    if not least <= len(whole) <= greatest:
+        return 9, None
+    body = whole[10:-3]
+    answer, fields = {5: read_five, 6: read_six, 12: read_twelve, 19: read_nineteen}[form](body)
+    if answer != 0:
+        return answer, None
+    return 0, dict(format=form, seq=seq, **fields)
+
+
+def read_five(body):
+    category = digits(body[:1])
+    if category is None:
+        return 11, None
+    if category not in (0, 9, 90, 99):
+        return 13, None
+    return 0, dict(category=category, text=body[1:])
+
+
+def read_six(body):
+    code, reveal, limit, status = body[:6], body[12], body[13], body[14]
+    trade, bids, asks = reveal >> 7, reveal >> 4 & 7, reveal >> 1 & 7
+    if bids > 5 or asks > 5:
+        return 10, None
+    if len(body) != 19 + 9 * (trade + bids + asks):
+        return 9, None
+    time, total = digits(body[6:12]), digits(body[15:19])
+    pairs = [(price(body[i:i + 5]), digits(body[i + 5:i + 9])) for i in range(19, len(body), 9)]
+    if None in (time, total) or any(None in pair for pair in pairs):
+        return 11, None
+    nines = time == 999999999999
+    if nines != (code == b"000000") or not nines and not time_of_day(time, 6):
+        return 12, None
+    if not printable(code):
+        return 13, None
+    return 0, dict(code=code, time=time, reveal=reveal, limit=limit, status=status, total=total, trade=pairs[:trade],
+                   bids=pairs[trade:trade + bids], asks=pairs[trade + bids:])
+
+
+def read_twelve(body):
+    count = digits(body[:1])
+    raw = [body[1 + 36 * i:37 + 36 * i] for i in range(10)]
+    codes = [s[:6] for s in raw]
+    prices = [[price(s[k:k + 5]) for k in (6, 11, 16, 21)] for s in raw]
+    totals = [digits(s[26:30]) for s in raw]
+    times = [digits(s[30:36]) for s in raw]
+    if count is None or None in totals or None in times or any(None in p for p in prices):
+        return 11, None
+    for i in range(10):
+        closing = i < count and times[i] == 999999999999
+        if not closing and not time_of_day(times[i], 6):
+            return 12, None
+    if not 1 <= count <= 10:
+        return 13, None
+    if not all(printable(code) for code in codes[:count]):
+        return 13, None
+    if any(s != b"      " + bytes(30) for s in raw[count:]):
+        return 13, None
+    return 0, dict(count=count, slots=list(zip(codes, prices, totals, times)))
+
+
+def read_nineteen(body):
+    code, halted, resumed, state = body[:6], digits(body[6:9]), digits(body[9:12]), body[12:]
+    if None in (halted, resumed):
+        return 11, None
+    round_end = halted == resumed == 999999
+    if not round_end:
+        if not time_of_day(halted, 0):
+            return 12, None
+        if resumed != 999999 and not time_of_day(resumed, 0):
+            return 12, None
+    if state not in (b"C", b"I"):
+        return 13, None
+    if round_end and not all(48 <= b <= 57 for b in code):
+        return 13, None
+    if not printable(code):
+        return 13, None
+    return 0, dict(code=code, halted=halted, resumed=resumed, state=state, round_end=int(code) if round_end else None)
+
+
+# ---------------------------------------------------------------------------------------------------------------------
+# The walk of a closed line.
+
+def walk(line):
+    """Every move over a closed line: place, answer, bytes, message."""
+    at = 0
+    while at < len(line):
+        answer, length, message = read(line[at:at + 1024])  # no frame is longer
+        step = 1 if length is None else length
+        yield at, answer, step, message
+        at += step

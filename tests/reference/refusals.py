@@ -1,0 +1,188 @@
+"""Frames to refuse, by the answers 6 to 13: each has a whole outline and is made for one answer. One is good, the near side of
+a rule.
+"""
+
+from .frames import NINES, good, halt, levels, notice, packed, patched, quote, refused, shown, slot, table
+
+
+def refused_6():
+    """A bad digit in each half of bytes 4 to 10, also before another business and format."""
+    for half in range(14):
+        header = list("01" "05" "01" "00000001")
+        header[half] = "A" if half % 2 else "F"
+        header = "".join(header)
+        yield refused(6, header[2:4], notice("09"), business=header[:2], version=header[4:6], seq=header[6:])
+    yield refused(6, "99", notice("0A"), business="99", seq="0000000B")
+
+
+def refused_7():
+    """Another business, or another format; before the version and the length."""
+    for business in ("00", "02", "10", "99"):
+        yield refused(7, "05", notice("09"), business=business)
+    for form in ("00", "01", "04", "07", "11", "13", "17", "18", "20", "50", "99"):
+        yield refused(7, form, notice("09"))
+    yield refused(7, "23", quote(0xFE, b""), version="99")
+
+
+def refused_8():
+    """Another version; before the length."""
+    yield refused(8, "05", notice("09"), version="00")
+    yield refused(8, "05", notice("09"), version="02")
+    yield refused(8, "06", quote(0xA2), version="03")
+    yield refused(8, "06", quote(0xA2), version="05")
+    yield refused(8, "12", table(slot()), version="02")
+    yield refused(8, "12", table(slot()), version="30")
+    yield refused(8, "19", halt(), version="02")
+    yield refused(8, "19", halt(), version="10")
+    yield refused(8, "19", halt() + b"x", version="04")
+
+
+def refused_9_range():
+    """A length outside the format's range; before the reveal byte and the digits."""
+    yield refused(9, "05", notice("00", b"j" * 61))
+    yield refused(9, "05", notice("0A", b"j" * 200))
+    yield refused(9, "06", b"k")
+    yield refused(9, "06", quote()[:-1])  # 31 bytes
+    yield refused(9, "06", quote(0xDA) + b"k")  # 132 bytes
+    yield refused(9, "06", quote(0x60, b"")[:-1])
+    yield refused(9, "06", quote(0x60, levels(11)) + b"k")
+    yield refused(9, "06", quote(0xEE, levels(13)))
+    yield refused(9, "12", packed("01"))
+    yield refused(9, "12", table(slot())[:-1])  # 373 bytes
+    yield refused(9, "12", table(slot()) + b"\x00")  # 375 bytes
+    yield refused(9, "19", halt()[:-1])  # 25 bytes
+    yield refused(9, "19", halt() + b"I")  # 27 bytes
+    yield refused(9, "19", b"l")
+
+
+def refused_10():
+    """Six or seven levels on a side; before the length that they would call for, and before the digits."""
+    for reveal in (0x60, 0x70, 0x0C, 0x0E, 0x66, 0xEE, 0xFF, 0x5C, 0xE2):
+        yield refused(10, "06", quote(reveal, levels(min(shown(reveal), 11))))
+    yield refused(10, "06", quote(0x60, b""))
+    yield refused(10, "06", quote(0x0E, b"m"))
+    yield refused(10, "06", quote(0x70, levels(7), b"\x00" * 6, "AAAAAAAAAAAA", total="BBBBBBBB"))
+
+
+def refused_9_reveal():
+    """A length that the reveal byte does not call for; before the digits."""
+    yield refused(9, "06", quote(0xA2, levels(3)))
+    yield refused(9, "06", quote(0xA2, levels(5)))
+    yield refused(9, "06", quote(0xA2, levels(4)[:-1]))
+    yield refused(9, "06", quote(0xA2, levels(4) + b"n"))
+    yield refused(9, "06", quote(0x00, levels(1)))
+    yield refused(9, "06", quote(0x01, b"n"))
+    yield refused(9, "06", quote(0x80, b""))
+    yield refused(9, "06", quote(0xDA, levels(10)))
+    yield refused(9, "06", quote(0xD6, levels(6)))  # the specification's example 5 prints D6 where its length calls for D0
+    yield refused(9, "06", quote(0x10, b"", time="A00000000000"))
+
+
+def refused_11_five_six_nineteen():
+    """A bad digit in a packed field of the body; before times and all else."""
+    for category in ("0A", "A0", "1B", "FF"):
+        yield refused(11, "05", notice(category))
+    for time in ("A90415061278", "0904150612F8", "09041506127F"):
+        yield refused(11, "06", quote(0xA2, time=time))
+    for total in ("A0016423", "0001642B"):
+        yield refused(11, "06", quote(0xA2, total=total))
+    # In the trade's pair and in the last ask's: a bad digit in the price, a price's first half that is not 0, a quantity.
+    for place in (0, 3):
+        for offset, byte in ((0, 0x10), (0, 0x90), (0, 0xA0), (0, 0x0A), (4, 0x0F), (5, 0xA0), (8, 0x0E)):
+            yield refused(11, "06", quote(0xA2, patched(levels(4), 9 * place + offset, byte)))
+    # The day's last frame with a bad digit; a bad digit, a wrong time and a wrong code at once.
+    yield refused(11, "06", quote(code=b"000000", time=NINES, total="9999999C"))
+    yield refused(11, "06", quote(code=b"\x00" * 6, time="250000000000", total="C0000000"))
+    for halted, resumed in (("A91200", "999999"), ("09120A", "999999"), ("091200", "F99999"), ("091200", "99999F"),
+                            ("999999", "99999A"), ("250000", "0A0000")):
+        yield refused(11, "19", halt(halted=halted, resumed=resumed, state=b"x"))
+
+
+def refused_11_twelve():
+    """Digits of all ten slots are looked at, whatever the count."""
+    body = table(slot(), slot(b"1102  "))
+    for count in ("0A", "A1"):
+        yield refused(11, "12", table(slot(), count=count))
+    # Slot, offset in the slot, byte: opening, highest, lowest, last with a first half that is not 0, total, time.
+    for place, offset, byte in ((0, 6, 0x10), (0, 11, 0x10), (0, 16, 0x10), (0, 21, 0x10), (0, 7, 0xA0), (0, 26, 0xA0),
+                                (0, 35, 0x0A), (1, 25, 0x0F), (2, 6, 0x10), (2, 29, 0x0A), (9, 21, 0x20), (9, 30, 0xA0),
+                                (9, 35, 0x0F)):
+        yield refused(11, "12", patched(body, 1 + 36 * place + offset, byte))
+    # A bad digit in the last slot, a wrong time in the first, a wrong count.
+    yield refused(11, "12", patched(table(slot(time="250000000000"), count="12"), 360, 0x0A))
+
+
+def refused_12():
+    """A time that breaks its rule; before all other fields."""
+    for time in ("240000000000", "006000000000", "000060000000", "236059999999", "990000000000", "999999000000",
+                 "999999999998", "099999999999"):
+        yield refused(12, "06", quote(0xA2, time=time))
+    # Nines stand exactly with the code 000000.
+    yield refused(12, "06", quote(0x00, time=NINES))
+    yield refused(12, "06", quote(0x00, code=b"00000 ", time=NINES))
+    yield refused(12, "06", quote(0x00, code=b"000000"))
+    yield refused(12, "06", quote(0x00, code=b"000000", time="999999999998"))
+    yield refused(12, "06", quote(0x00, code=b"\x7f" * 6, time=NINES))
+    for time in ("240000000000", "006000000000", "000060000000", "999999000000", "999999999998"):
+        yield refused(12, "12", table(slot(), slot(b"1102  ", time=time)))
+    # Nines in a slot after the count, the next one and the last; under a count of 00 no slot is counted.
+    body = table(slot(time=NINES))
+    yield refused(12, "12", body[:37 + 30] + packed(NINES) + body[37 + 36:])
+    yield refused(12, "12", body[:361 - 6] + packed(NINES))
+    yield refused(12, "12", table(slot(time=NINES), count="00"))
+    # No time of day in an unused slot; a wrong time and a wrong code, unused slot and count.
+    yield refused(12, "12", body[:361 - 6] + packed("000060000000"))
+    yield refused(12, "12", table(slot(b"\x00" * 6), slot(time="240000000000"), count="11"))
+    for halted in ("240000", "006000", "000060", "999998"):
+        yield refused(12, "19", halt(halted=halted))
+        yield refused(12, "19", halt(halted="091200", resumed=halted))
+    # Nines for the halt alone; and a wrong time with a wrong state and code.
+    yield refused(12, "19", halt(halted="999999", resumed="115700"))
+    yield refused(12, "19", halt(b"000002", halted="999999", resumed="999998"))
+    yield refused(12, "19", halt(b"\x00" * 6, halted="240000", state=b"x"))
+
+
+def refused_13():
+    """Every other field: category, codes, count, unused slots, state, and the code of a round's end."""
+    for category in ("01", "08", "10", "19", "89", "91", "98"):
+        yield refused(13, "05", notice(category, b"text"))
+    for byte in (0, 27, 31, 127, 128, 255):
+        yield refused(13, "06", quote(0xA2, code=patched(b"2330  ", 5, byte)))
+    yield refused(13, "06", quote(0xA2, code=b"\x1f2330 "))
+    # Counts of 00 and above 10; nines are times under a count above 10, which all slots are under.
+    yield refused(13, "12", table(slot(), count="00"))
+    yield refused(13, "12", table(count="00"))
+    yield refused(13, "12", table(*[slot(time=NINES)] * 10, count="11"))
+    yield refused(13, "12", table(*[slot()] * 10, count="99"))
+    yield refused(13, "12", table(slot(b"1101 \x1b")))
+    yield refused(13, "12", table(*[slot()] * 9, slot(b"\x7f1110 ")))
+    # A count that leaves a filled slot out, and one that takes an unused one in, which is no fault: spaces are a code.
+    yield refused(13, "12", table(slot(), slot(b"1102  "), count="01"))
+    yield good("12", table(slot(), count="02"))
+    # An unused slot's code of zero bytes, code 000000, price, total, time, and the tenth slot's last byte.
+    body = table(slot())
+    yield refused(13, "12", body[:37] + b"\x00" * 6 + body[43:])
+    yield refused(13, "12", body[:37] + b"000000" + body[43:])
+    for offset in (37 + 10, 37 + 15, 37 + 20, 37 + 25, 37 + 29, 37 + 35, 360):
+        yield refused(13, "12", patched(body, offset, 0x01))
+    for state in (b"c", b"i", b"X", b"\x00", b"\x1b"):
+        yield refused(13, "19", halt(state=state))
+    yield refused(13, "19", halt(b"000002", "999999", "999999", b"x"))
+    yield refused(13, "19", halt(b"2330 \x1f"))
+    yield refused(13, "19", halt(b"\x7f330  ", resumed="115700"))
+    for code in (b"2     ", b"00000A", b" 00002", b"00000/", b"00000:", b"\x00\x00\x00\x00\x00\x02"):
+        yield refused(13, "19", halt(code, "999999", "999999"))
+
+
+CASES = [
+    refused_6,
+    refused_7,
+    refused_8,
+    refused_9_range,
+    refused_10,
+    refused_9_reveal,
+    refused_11_five_six_nineteen,
+    refused_11_twelve,
+    refused_12,
+    refused_13,
+]
