@@ -16,7 +16,7 @@ use crate::{gaps, listing, messages, numbers};
 const LINE: usize = 25_000;
 const SHORT_LINES: usize = 10;
 
-/// From so many frames on every answer has to occur.
+/// From so many frames on every program has to be there, and every answer to occur.
 const ENOUGH: usize = 100_000;
 
 /// What a program is given.
@@ -63,6 +63,9 @@ impl Comparison {
     /// Compares all programs over so many frames, some short lines, and as many arrivals. Prints a line for each program, or
     /// gives the first difference.
     pub fn run(&self, seed: u64, frames: usize) -> Result<(), String> {
+        if let Some(program) = PROGRAMS.iter().find(|program| frames >= ENOUGH && !self.has(program)) {
+            return Err(format!("{} --help lists no program {}", self.trivsome.display(), program.name));
+        }
         let mut generator = Generator::new(seed);
         let mut seen = Seen::default();
         let mut rows = [0; PROGRAMS.len()];

@@ -58,6 +58,9 @@ fn only_what_is_listed() {
     assert!(text.contains("listing: not there to be compared\n"));
     assert_eq!(text.matches("all the same").count(), 1);
     assert_eq!(compare("worked", "cat", "30").0, Some(1));
+    let (status, text) = compare("worked gaps", "cat", "100000");
+    assert_eq!(status, Some(1), "{text}");
+    assert!(text.contains(" lists no program listing\n"), "{text}");
 }
 
 #[test]
