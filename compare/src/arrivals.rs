@@ -24,7 +24,7 @@ pub struct Arrivals {
     damaged: [u64; 2],
 }
 
-/// What a call gives: a figure or two, or the paper's number of a refusal.
+/// What a call gives: a figure or two, or the number of a refusal.
 type Told = Result<(u32, u32), u8>;
 
 impl Arrivals {

@@ -41,7 +41,7 @@ pub enum Refusal {
 }
 
 impl Refusal {
-    /// The paper's number.
+    /// The number in the rules.
     pub fn number(self) -> u8 {
         self as u8
     }

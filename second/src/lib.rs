@@ -1,6 +1,6 @@
 //! An independent second program: the reading, writing, walking and counting of the exchange's frames, written from the
-//! paper (the owner's rules) and the specification (the exchange's B.12.07) alone, to be run beside the proved program
-//! and compared with it. It is ordinary code; nothing here is proved.
+//! owner's paper and the specification (docs/RULES.md says what these are) alone, to be run beside the proved program and
+//! compared with it. It is ordinary code; nothing here is proved.
 
 pub mod compare;
 pub mod digits;

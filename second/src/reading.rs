@@ -1,4 +1,4 @@
-//! The reading: what the bytes from a place on are, by the paper's numbers 0 to 13.
+//! The reading: what the bytes from a place on are, by the numbers 0 to 13 of docs/RULES.md.
 
 use crate::five::{self, Notice};
 use crate::nineteen::{self, Halt};
@@ -69,7 +69,7 @@ pub enum Answer {
 }
 
 impl Answer {
-    /// The paper's number.
+    /// The number in the rules.
     pub fn number(&self) -> u8 {
         match *self {
             Answer::Accepted { .. } => 0,

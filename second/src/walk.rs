@@ -74,7 +74,7 @@ pub struct Tally {
 pub struct TooMuch;
 
 impl TooMuch {
-    /// The paper's number.
+    /// The number in the rules.
     pub const NUMBER: u8 = 16;
 }
 

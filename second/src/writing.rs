@@ -13,7 +13,7 @@ pub enum NotWritten {
 }
 
 impl NotWritten {
-    /// The paper's number.
+    /// The number in the rules.
     pub fn number(self) -> u8 {
         self as u8
     }

@@ -39,7 +39,7 @@ pub enum LedgerRefusal {
 }
 
 impl LedgerRefusal {
-    /// The paper's number.
+    /// The number in the rules.
     #[inline]
     pub fn number(self) -> u8 {
         match self {

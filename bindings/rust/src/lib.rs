@@ -1,4 +1,4 @@
-//! The proved library for programs in Rust. Every call takes any bytes and any numbers, and answers by the paper's numbers
+//! The proved library for programs in Rust. Every call takes any bytes and any numbers, and answers by the rules' numbers
 //! (docs/RULES.md): frames at any place of a line are read and messages written, lines walked, and frame numbers recorded.
 //!
 //! ```

@@ -4,7 +4,7 @@ use std::fmt;
 
 use crate::raw;
 
-/// A reading's answer as the library gives it: the paper's number, format, length and sequence number in one number.
+/// A reading's answer as the library gives it: its number in the rules, format, length and sequence number in one number.
 #[derive(Clone, Copy, PartialEq, Eq, Hash)]
 #[repr(transparent)]
 pub struct Outcome(u64);
@@ -49,7 +49,7 @@ impl Outcome {
         Outcome(outcome)
     }
 
-    /// The paper's number, 0 to 13.
+    /// The number in the rules, 0 to 13.
     #[inline]
     pub fn number(self) -> u8 {
         self.0 as u8
@@ -101,7 +101,7 @@ impl fmt::Debug for Outcome {
 }
 
 impl Answer {
-    /// The paper's number.
+    /// The number in the rules.
     #[inline]
     pub fn number(self) -> u8 {
         match self {
@@ -146,7 +146,7 @@ impl fmt::Display for Answer {
 impl std::error::Error for Answer {}
 
 impl NotWritten {
-    /// The paper's number.
+    /// The number in the rules.
     #[inline]
     pub fn number(self) -> u8 {
         match self {

@@ -79,7 +79,7 @@ pub struct Tally {
 pub struct TooMuch;
 
 impl TooMuch {
-    /// The paper's number.
+    /// The number in the rules.
     pub const NUMBER: u8 = 16;
 }
 

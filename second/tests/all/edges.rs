@@ -1,4 +1,4 @@
-//! The paper's edges to try, in its order. Those of the ledger are in `ledger.rs`.
+//! The edges of docs/RULES.md, in their order. Those of the ledger are in `ledger.rs`.
 
 use crate::build::*;
 use second::five::Notice;

@@ -1,4 +1,4 @@
-//! The ledger: the paper's two edges, every way to spoil a record, and a long series beside a plain set of numbers.
+//! The ledger: the two edges of docs/RULES.md, every way to spoil a record, and a long series beside a plain set of numbers.
 
 use std::collections::BTreeSet;
 

@@ -1,4 +1,4 @@
-//! The listing: the paper's example, and lines that come in pieces of any size.
+//! The listing: the example of docs/RULES.md, and lines that come in pieces of any size.
 
 use std::io::{self, Read};
 

@@ -1,4 +1,4 @@
-//! The paper's edges and the specification's worked examples, and tests of each module. One program, to keep builds small.
+//! The edges of docs/RULES.md and the specification's worked examples, and tests of each module. One program, to keep builds small.
 
 mod build;
 mod comparing;

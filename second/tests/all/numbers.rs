@@ -14,11 +14,11 @@ const FRESH: &str = "highest 0 heard 0 missing 0 runs 0\nrun 0 23\n";
 fn series() {
     assert_eq!(told(""), FRESH);
     assert_eq!(told("\n"), [FRESH, FRESH].concat());
-    let papers = "5 new\n2 new\n5 repeat\nhighest 5 heard 2 missing 3 runs 2\nrun 0 1-1\nrun 1 3-4\nrun 2 23\n";
-    assert_eq!(told("5\n2\n5\n"), papers);
+    let starred = "5 new\n2 new\n5 repeat\nhighest 5 heard 2 missing 3 runs 2\nrun 0 1-1\nrun 1 3-4\nrun 2 23\n";
+    assert_eq!(told("5\n2\n5\n"), starred);
     // An empty line clears.
     let one = "1 new\nhighest 1 heard 1 missing 0 runs 0\nrun 0 23\n";
-    assert_eq!(told("5\n2\n5\n\n1\n\n"), [papers, one, FRESH].concat());
+    assert_eq!(told("5\n2\n5\n\n1\n\n"), [starred, one, FRESH].concat());
     let outside = "0 21\n100000000 21\n99999999 new\nhighest 99999999 heard 1 missing 99999998 runs 1\n";
     assert_eq!(told("0\n100000000\n99999999\n"), format!("{outside}run 0 1-99999998\nrun 1 23\n"));
 }
