@@ -1,22 +1,29 @@
 -- What the laws of a walk say of the stock exchange's line.
 use Prim.Native.Nat.{ℕ, _+_, _≤_, _<_}
-use mathlib.Core.Path.{_≡_, refl}
-use mathlib.Core.Bool.{Bool, true, false}
-use mathlib.Core.List.{List, [], _++_, map, flatten}
+use mathlib.Core.Path.{_≡_, refl, sym}
+use mathlib.Core.Bool.{Bool, true, false, cond}
+use mathlib.Core.Logic.{_↔_}
+use mathlib.Core.List.{List, [], _∷_, _++_, map, flatten}
 use lib.ListN.{length, drop}
-use Rattle.walk.specs.Walk.{Move, walk, walkFrom, restOf}
+use borrow.Author.Tests.{eqb-true}
+use Rattle.digits.proofs.Bools.{and-left}
+use Rattle.answers.specs.Answers.{answerNumber, answerValues}
+use Rattle.walk.specs.Walk.{Move, taken, stops, walk, walkFrom, restOf}
 use Rattle.walk.specs.Tally.{largest, tallyOf}
 use Rattle.walk.specs.Rows.{rowsOf}
 use Rattle.walk.specs.Pieces.{reach, inPieces}
-use Rattle.walk.specs.Told.{moveOf, fresh}
+use Rattle.walk.specs.Told.{moveOf, fresh, passes, nextNumber}
+use Rattle.walk.specs.declared.rows.Kept.{Kept}
 use Rattle.walk.specs.Listed.{rowsByCalls}
+use Rattle.walk.proofs.ToldSteps.{next-sixteen-exactly}
 use Rattle.walk.proofs.MoreLaws.{walk-more, rest-short, rest-closed}
 use Rattle.walk.proofs.FigureLaws.{figures-add-up, Each, walk-says}
 use Rattle.walk.proofs.RowLaws.{pieces-are-rows}
 use Rattle.walk.proofs.MapLaws.{walk-map}
 use Rattle.walk.proofs.ListedLaws.{calls-are-rows}
 use Rattle.stock_reading.specs.Reading.{answerOf}
-use Rattle.stock_lines.specs.Lines.{answers, longest, Saying, sayings}
+use Rattle.stock_lines.specs.Lines.{answers, longest, Saying, sayings, moveAt, stepNumber, stepValues, nextRows}
+use Rattle.stock_lines.specs.declared.moves.Step.the-variants.{Moved, Stopped}
 use Rattle.stock_lines.proofs.LineLaws.{sound-answers, sound-sayings}
 
 -- the four figures of a walk over a line add up to its length
@@ -26,6 +33,25 @@ line-adds-up = figures-add-up answers longest sound-answers
 -- each move says, at its place, what the reading says there, with the message
 pub line-says : (closed : Bool) (line : List ℕ) → Each sayings longest sound-sayings (λ m. m .said ≡ sayings .says (drop (m .at) line)) (walk sayings closed line)
 line-says = walk-says sayings longest sound-sayings
+
+-- a step has the answer number that the reading gives at its place, and a move its values
+pub step-number : (closed : Bool) (at : ℕ) (line : List ℕ) → stepNumber (moveAt closed at line) ≡ answerNumber (answerOf (drop at line))
+step-number closed at line = go (stops answers closed (drop at line)) refl
+  where
+    go : (b : Bool) → stops answers closed (drop at line) ≡ b
+        → stepNumber (cond b Stopped (Moved (record { at = at; bytes = taken answers (answerOf (drop at line)); answer = answerOf (drop at line) })))
+        ≡ answerNumber (answerOf (drop at line))
+    go true e = sym (eqb-true (answerNumber (answerOf (drop at line))) 2 (and-left _ _ e))
+    go false e = refl
+
+pub step-values : (closed : Bool) (at : ℕ) (line : List ℕ) → stops answers closed (drop at line) ≡ false
+    → stepValues (moveAt closed at line) ≡ at ∷ taken answers (answerOf (drop at line)) ∷ answerValues (answerOf (drop at line))
+step-values closed at line e = rw e
+
+-- 16 exactly: the next rows answer it where a move up to the next row cannot be held by the place or the kept bytes
+pub line-sixteen-exactly : (closed : Bool) (kept : Kept) (at : ℕ) (line : List ℕ)
+    → (nextNumber (nextRows closed kept at line) ≡ 16) ↔ (passes (walkFrom answers closed (kept .at) (drop at line)) kept ≡ true)
+line-sixteen-exactly closed kept at line = next-sixteen-exactly (walkFrom answers closed (kept .at) (drop at line)) kept at
 
 -- the walk with messages makes the same moves as the one without
 pub messages-aside : (closed : Bool) (line : List ℕ)

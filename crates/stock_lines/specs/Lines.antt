@@ -1,10 +1,10 @@
 -- The stock exchange's line: its reading, with and without the messages, and what the calls say of a walk over it.
 use Prim.Native.Nat.{ℕ}
 use mathlib.Core.Bool.{Bool, cond}
-use mathlib.Core.List.{List}
+use mathlib.Core.List.{List, [], _∷_}
 use lib.ListN.{drop}
 use lib.Dec.{eqb}
-use Rattle.answers.specs.Answers.{answerNumber, answerLength}
+use Rattle.answers.specs.Answers.{answerNumber, answerValues, answerLength}
 use Rattle.answers.specs.declared.Answer.{Answer}
 use Rattle.answers.specs.declared.Answer.the-variants.{Accepted, NoFrame, Refused}
 use Rattle.stock_notices.specs.Notices.{fiveCodec, noNotice}
@@ -67,6 +67,16 @@ abbrev pub moveAt : Bool → ℕ → List ℕ → Step
 moveAt closed at line =
     let t = drop at line in
     cond (stops answers closed t) Stopped (Moved (record { at = at; bytes = taken answers (answerOf t); answer = answerOf t }))
+
+-- the answer number of a step: what the reading says there; a walk stops at a 2, which no bytes answer too
+abbrev pub stepNumber : Step → ℕ
+stepNumber (Moved r) = answerNumber (r .answer)
+stepNumber Stopped = 2
+
+-- and the values beside it: the place and the bytes of a move, and the answer's own
+abbrev pub stepValues : Step → List ℕ
+stepValues (Moved r) = r .at ∷ r .bytes ∷ answerValues (r .answer)
+stepValues Stopped = []
 
 -- the next rows of a line from a place on, with what is kept from the pieces before
 abbrev pub nextRows : Bool → Kept → ℕ → List ℕ → Next

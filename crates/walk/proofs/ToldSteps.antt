@@ -1,7 +1,8 @@
 -- What one move more gives, by the tests on its numbers.
 use Prim.Native.Nat.{ℕ, _+_, _-_, _≤_, _<_}
 use mathlib.Core.Path.{_≡_, refl, sym}
-use mathlib.Core.Bool.{Bool, true, false, cond}
+use mathlib.Core.Bool.{Bool, true, false, cond, _&&_}
+use mathlib.Core.List.{List, [], _∷_}
 use mathlib.Core.Logic.{_↔_}
 use native.Mathlib.Omega.{arith}
 use lib.Dec.{eqb}
@@ -9,9 +10,9 @@ use borrow.Author.Tests.{eq-eqb, ne-eqb, le-leb, lt-leb}
 use Rattle.digits.proofs.Bools.{no-false}
 use Rattle.answers.specs.Answers.{answerNumber}
 use Rattle.answers.specs.declared.Answer.{Answer}
-use Rattle.walk.specs.Walk.{isWhole}
+use Rattle.walk.specs.Walk.{Move, isWhole}
 use Rattle.walk.specs.Tally.{isSkipped, largest}
-use Rattle.walk.specs.Told.{noRow, joinedRow, framedRow, holds, toldOf, toldNumber}
+use Rattle.walk.specs.Told.{noRow, joinedRow, framedRow, holds, toldOf, onTold, nextOf, passes, toldNumber, nextNumber}
 use Rattle.walk.specs.declared.rows.Row.{Row}
 use Rattle.walk.specs.declared.rows.Kept.{Kept}
 use Rattle.walk.specs.declared.rows.Told.{Told}
@@ -78,3 +79,31 @@ sixteen-exactly k a n = go (holds k n) (isSkipped (answerNumber a)) (eqb (k .ski
     go true false true = (none, λ e. absurd (no-false (sym e)))
     go true false false = (none, λ e. absurd (no-false (sym e)))
     go false s z = (λ e. refl, λ e. refl)
+
+-- and of some moves exactly where one of them up to the next row cannot be held
+pub next-sixteen-exactly : (ms : List (Move Answer)) (k : Kept) (at : ℕ) → (nextNumber (nextOf ms k at) ≡ 16) ↔ (passes ms k ≡ true)
+unfolding toldOf
+next-sixteen-exactly [] k at = (λ (e : _≡_ {A = ℕ} 0 16). absurd (omega arith), λ e. absurd (no-false e))
+next-sixteen-exactly (m ∷ ms) k at =
+    go (holds k (m .bytes)) (isSkipped (answerNumber (m .said))) (eqb (k .skipped .bytes) 0) (next-sixteen-exactly ms later (at + m .bytes))
+  where
+    row : Row
+    row = record { at = k .at; bytes = m .bytes; answer = m .said }
+
+    later : Kept
+    later = record { at = k .at + m .bytes; skipped = joinedRow (k .skipped) row }
+
+    T : Bool → Bool → Bool → Told
+    T h s z =
+        let alone : Kept = record { at = k .at + m .bytes; skipped = noRow } in
+        cond h (cond s (Nothing later) (cond z (One row alone) (Two (k .skipped) row alone))) Full
+
+    none : _≡_ {A = ℕ} 0 16 → false ≡ true
+    none q = absurd (omega arith)
+
+    go : (h s z : Bool) → ((nextNumber (nextOf ms later (at + m .bytes)) ≡ 16) ↔ (passes ms later ≡ true))
+        → (nextNumber (onTold (T h s z) (at + m .bytes) (nextOf ms)) ≡ 16) ↔ (cond h (s && passes ms later) true ≡ true)
+    go true true z ih = ih
+    go true false true ih = (none, λ e. absurd (no-false e))
+    go true false false ih = (none, λ e. absurd (no-false e))
+    go false s z ih = (λ e. refl, λ e. refl)

@@ -1,6 +1,6 @@
 -- Rows of answers while a line comes in pieces: what one move more gives.
 use Prim.Native.Nat.{ℕ, _+_}
-use mathlib.Core.Bool.{Bool, cond, _&&_}
+use mathlib.Core.Bool.{Bool, true, false, cond, _&&_}
 use mathlib.Core.List.{List, [], _∷_}
 use lib.Dec.{eqb, leb}
 use Rattle.answers.specs.Answers.{answerNumber}
@@ -22,9 +22,9 @@ moveOf r = record { at = r .at; said = r .answer; bytes = r .bytes }
 abbrev pub rowOf : Move Answer → Row
 rowOf m = record { at = m .at; answer = m .said; bytes = m .bytes }
 
--- no skipped bytes
+-- no skipped bytes: none of them stands for the reason that bytes are skipped for, 1
 abbrev pub noRow : Row
-noRow = record { at = 0; bytes = 0; answer = NoFrame 0 }
+noRow = record { at = 0; bytes = 0; answer = NoFrame 1 }
 
 -- at a line's beginning
 abbrev pub fresh : Kept
@@ -65,7 +65,16 @@ abbrev pub nextOf : List (Move Answer) → Kept → ℕ → Next
 nextOf [] k at = Stopped k at
 nextOf (m ∷ ms) k at = onTold (toldOf k (m .said) (m .bytes)) (at + m .bytes) (nextOf ms)
 
--- the paper's number of each case: 16 where the place would pass the largest number, 0 where nothing is refused
+-- among some moves up to the next row stands one that the numbers cannot hold
+abbrev pub passes : List (Move Answer) → Kept → Bool
+passes [] k = false
+passes (m ∷ ms) k =
+    let r : Row = record { at = k .at; bytes = m .bytes; answer = m .said } in
+    cond (holds k (m .bytes))
+    (isSkipped (answerNumber (m .said)) && passes ms (record { at = k .at + m .bytes; skipped = joinedRow (k .skipped) r }))
+    true
+
+-- the answer number of each case: 16 where the place would pass the largest number, 0 where nothing is refused
 abbrev pub toldNumber : Told → ℕ
 toldNumber (Nothing k) = 0
 toldNumber (One r k) = 0

@@ -47,7 +47,7 @@ fn no_row() -> Row
     Row {
         at: 0,
         bytes: 0,
-        answer: Answer::NoFrame(0),
+        answer: Answer::NoFrame(1),
     }
 }
 
