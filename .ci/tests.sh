@@ -49,8 +49,9 @@ quick_tests() {
 # once all is proved: the programs and the library as their users do, and the second program
 user_tests() {
     programs=$(for main in crates/*/src/main.rt; do printf '%s/|' "${main%/src/main.rt}"; done)
-    test_on "${programs}trivsome|tests/trivsome/" "trivsome runs, and fails loudly" sh tests/trivsome/try.sh
-    test_on 'crates/c_|include/|native/|examples/|samples/|tests/library/' "the library is used from C" sh tests/library/try.sh
+    test_on "${programs}trivsome|tests/trivsome/|tests/reference/" "trivsome runs, and fails loudly" sh tests/trivsome/try.sh
+    test_on 'crates/c_|include/|native/|examples/|samples/|tests/library/|tests/reference/' "the library is used from C" sh tests/library/try.sh
+    test_on 'second/|compare/|bindings/|bench/|tests/rust/' "the Rust packages are laid out, and clippy has nothing to say" sh tests/rust/try.sh
     test_on 'second/' "the second program passes its own tests" cargo_test second
     test_on 'second/' "the second program and the proved ones agree" cargo_run second compare --seed 1 --frames "$FRAMES"
     test_on 'bindings/|native/' "the calls from Rust pass their own tests" cargo_test bindings/rust

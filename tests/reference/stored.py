@@ -10,11 +10,11 @@ ROOT = pathlib.Path(__file__).resolve().parents[2]
 
 # the folder of each program's crate
 CRATES = {
-    "listing": "listing",
-    "messages": "messages",
-    "gaps": "gaps",
-    "worked": "worked",
-    "numbers": "numbers",
+    "listing": "program_listing",
+    "messages": "program_messages",
+    "gaps": "program_gaps",
+    "worked": "test_worked",
+    "numbers": "test_numbers",
 }
 
 
