@@ -9,11 +9,11 @@ use Rattle.digits.proofs.Bools.{no-false}
 use Rattle.ledger.specs.Sets.{with, countTo}
 use Rattle.ledger.specs.Ends.{falling, heardAt, highestIn, heardIn, firstOf, lastOf, runsIn, turned, withNumber, fitted}
 use Rattle.ledger.specs.Calls.{mostNumber, mostRuns, arrivalNumber, figureNumber, runNumber, valid, arrivedOf, figureBy, figureOf, runOf}
-use Rattle.ledger.specs.declared.record.Ledger.{Ledger}
-use Rattle.ledger.specs.declared.record.Arrival.{Arrival}
-use Rattle.ledger.specs.declared.record.Arrived.{Arrived}
-use Rattle.ledger.specs.declared.record.Figure.{Figure}
-use Rattle.ledger.specs.declared.record.RunAt.{RunAt}
+use Rattle.ledger.specs.declared.Ledger.{Ledger}
+use Rattle.ledger.specs.declared.Arrival.{Arrival}
+use Rattle.ledger.specs.declared.Arrived.{Arrived}
+use Rattle.ledger.specs.declared.Figure.{Figure}
+use Rattle.ledger.specs.declared.RunAt.{RunAt}
 use Rattle.ledger.proofs.EndLaws.{falls-bound}
 use Rattle.ledger.proofs.SetLaws.{count-same}
 use Rattle.ledger.proofs.TrueLaws.{ends-heard}

@@ -2,16 +2,16 @@
 ghost use mathlib.Core.Path.{_≡_};
 ghost use Rattle.ledger.specs.Calls.{fresh, withEnds, arrivedOf, highestOf, heardOf, missingOf, runsOf, runOf};
 ghost use Rattle.c_ledger.specs.Outcomes.{arrivalOutcome, figureOutcome, runOutcome};
-use ledger::calls::arrive_lent;
-use ledger::calls::heard;
-use ledger::calls::highest;
-use ledger::calls::missing;
-use ledger::calls::run;
-use ledger::calls::runs;
-use ledger::record::Arrival;
-use ledger::record::Figure;
-use ledger::record::Ledger;
-use ledger::record::RunAt;
+use ledger::Arrival;
+use ledger::Figure;
+use ledger::Ledger;
+use ledger::RunAt;
+use ledger_arrivals::arrive_lent;
+use ledger_figures::heard;
+use ledger_figures::highest;
+use ledger_figures::missing;
+use ledger_figures::run;
+use ledger_figures::runs;
 
 // Of an arrival: above the answer stands how many numbers more are heard.
 fn arrival_outcome(arrival: Arrival) -> u64

@@ -1,28 +1,19 @@
 -- The answers to an arrival, one by one.
-use Prim.Native.Nat.{ℕ, _+_, _-_, _%_, _≤_, _<_}
+use Prim.Native.Nat.{ℕ, _+_, _-_, _≤_}
 use native.Mathlib.Omega.{arith}
-use mathlib.Core.Path.{_≡_, refl, sym}
+use mathlib.Core.Path.{_≡_, refl}
 use mathlib.Core.Bool.{Bool, true, false, cond, _||_}
 use mathlib.Core.List.{List}
-use lib.ListN.{length}
 use lib.Dec.{ltb, eqb}
-use borrow.Author.Tests.{eqb-false, ltb-false, eq-eqb, ne-eqb, lt-ltb, le-ltb}
-use Rattle.ledger.specs.Ends.{places, falling, endsFrom, heardAt, runsIn, withNumber, fitted}
+use borrow.Author.Tests.{eqb-false, ltb-false, ne-eqb, le-ltb}
+use Rattle.ledger.specs.Ends.{falling, heardAt, runsIn, withNumber, fitted}
 use Rattle.ledger.specs.Calls.{mostNumber, mostRuns, valid, stays, arrivedOf}
-use Rattle.ledger.specs.Steps.{NoneBetween, takenAnswer, takenEnds}
 use Rattle.ledger.specs.Calls.{withEnds}
-use Rattle.ledger.specs.declared.record.Ledger.{Ledger}
-use Rattle.ledger.specs.declared.record.Arrival.{Arrival}
-use Rattle.ledger.specs.declared.record.Arrived.{Arrived}
-use Rattle.ledger.proofs.EndLaws.{from-length}
+use Rattle.ledger.specs.declared.Ledger.{Ledger}
+use Rattle.ledger.specs.declared.Arrival.{Arrival}
+use Rattle.ledger.specs.declared.Arrived.{Arrived}
 
--- the number is none of those that may arrive, or one of them
-outside-zero : (n : ℕ) → n ≡ 0 → (eqb n 0 || ltb mostNumber n) ≡ true
-outside-zero n q = rw (eq-eqb n 0 q) refl
-
-outside-over : (n : ℕ) → mostNumber < n → (eqb n 0 || ltb mostNumber n) ≡ true
-outside-over n lt = rw (ne-eqb n 0 (λ (q : n ≡ 0). omega arith), lt-ltb mostNumber n lt) refl
-
+-- the number is one of those that may arrive
 pub inside : (n : ℕ) → 1 ≤ n → n ≤ mostNumber → (eqb n 0 || ltb mostNumber n) ≡ false
 inside n lo hi = rw (ne-eqb n 0 (λ (q : n ≡ 0). omega arith), le-ltb mostNumber n hi) refl
 
@@ -38,12 +29,6 @@ pub arrive-outside : (l : Ledger) (n : ℕ) → valid l ≡ true → (eqb n 0 ||
 unfolding arrivedOf
 arrive-outside l n ok out = rw (ok, out) refl
 
-pub arrive-zero : (l : Ledger) (n : ℕ) → valid l ≡ true → n ≡ 0 → stays l (Arrival.Refused 21) ≡ arrivedOf l n
-arrive-zero l n ok q = arrive-outside l n ok (outside-zero n q)
-
-pub arrive-over : (l : Ledger) (n : ℕ) → valid l ≡ true → mostNumber < n → stays l (Arrival.Refused 21) ≡ arrivedOf l n
-arrive-over l n ok lt = arrive-outside l n ok (outside-over n lt)
-
 pub arrive-repeat : (l : Ledger) (n : ℕ) → valid l ≡ true → 1 ≤ n → n ≤ mostNumber → heardAt (l .ends) n ≡ true → stays l Arrival.Repeat ≡ arrivedOf l n
 unfolding arrivedOf
 arrive-repeat l n ok lo hi there = rw (ok, inside n lo hi, there) refl
@@ -57,34 +42,6 @@ pub arrive-new : (l : Ledger) (n : ℕ) → valid l ≡ true → 1 ≤ n → n �
     → ltb mostRuns (runsIn (withNumber n (l .ends))) ≡ false → record { ledger = withEnds (fitted (withNumber n (l .ends))); answer = Arrival.New } ≡ arrivedOf l n
 unfolding arrivedOf
 arrive-new l n ok lo hi miss few = rw (ok, inside n lo hi, miss, few) refl
-
--- what taking the run of one number leads to is the arrival's answer
-pub arrive-taken : (es : List ℕ) (n : ℕ) → valid (withEnds es) ≡ true → 1 ≤ n → n ≤ mostNumber → heardAt es n ≡ false
-    → record { ledger = withEnds (takenEnds (withNumber n es) es); answer = takenAnswer (withNumber n es) } ≡ arrivedOf (withEnds es) n
-arrive-taken es n ok lo hi miss = go (ltb mostRuns (runsIn (withNumber n es))) refl
-  where
-    go : (t : Bool) → ltb mostRuns (runsIn (withNumber n es)) ≡ t
-        → record { ledger = withEnds (cond t es (fitted (withNumber n es))); answer = cond t (Arrival.Refused 22) Arrival.New } ≡ arrivedOf (withEnds es) n
-    go true p = arrive-full (withEnds es) n ok lo hi miss p
-    go false p = arrive-new (withEnds es) n ok lo hi miss p
-
-pub arrive-left : (es left : List ℕ) (r : Arrival) (n : ℕ) → valid (withEnds es) ≡ true → 1 ≤ n → n ≤ mostNumber → heardAt es n ≡ false
-    → r ≡ takenAnswer (withNumber n es) → left ≡ takenEnds (withNumber n es) es → record { ledger = withEnds left; answer = r } ≡ arrivedOf (withEnds es) n
-arrive-left es left r n ok lo hi miss p q = rw (p, q) (arrive-taken es n ok lo hi miss)
-
--- one missing number is a run that can be taken
-pub one-missing : (es : List ℕ) (at n : ℕ) → length es ≡ places → falling (mostNumber + 1) es ≡ true → 1 ≤ n → at ≡ endsFrom n es → at % 2 ≡ 0
-    → NoneBetween at (n - 1) n es
-one-missing es at n whole falls lo place even =
-    let q : n - 1 + 1 ≡ n = omega arith in
-    record {
-      whole = whole;
-      falls = falls;
-      in-list = omega (arith, from-length n es);
-      ends-above = sym place;
-      none-between = rw q (sym place);
-      in-order = omega arith;
-    }
 
 -- every arrival at a good record is one of these
 pub data Arrives (l : Ledger) (n : ℕ) : Arrived → Type 0 where

@@ -1,12 +1,8 @@
 -- The laws that the proofs cite, and the theorems that belong to no one function.
-pub mod LoopLaws
 pub mod EndLaws
 pub mod SetLaws
 pub mod TrueLaws
 pub mod TurnLaws
-pub mod UsedLaws
-pub mod TakeLaws
-pub mod CallLaws
 pub mod ArriveLaws
 pub mod Series
 pub mod Twenty

@@ -12,8 +12,8 @@ use Rattle.ledger.specs.Sets.{with, runsTo, Highest}
 use Rattle.ledger.specs.Ends.{places, falling, endsFrom, heardAt, highestIn, heardIn, missingIn, runsIn, firstOf, lastOf, turned, withNumber, fitted}
 use Rattle.ledger.specs.Calls.{mostNumber, mostRuns, arrivalNumber, fresh, valid, arrivedOf}
 use Rattle.ledger.specs.History.{after, answerTo, recorded, Told, answerBy}
-use Rattle.ledger.specs.declared.record.Ledger.{Ledger}
-use Rattle.ledger.specs.declared.record.Arrived.{Arrived}
+use Rattle.ledger.specs.declared.Ledger.{Ledger}
+use Rattle.ledger.specs.declared.Arrived.{Arrived}
 use Rattle.ledger.proofs.EndLaws.{from-length, even-missing}
 use Rattle.ledger.proofs.SetLaws.{runs-same, highest-once, highest-same, true-same, with-highest, with-there}
 use Rattle.ledger.proofs.TrueLaws.{ends-highest, ends-runs, ends-true}

@@ -5,9 +5,9 @@ use mathlib.Core.Path.{_≡_, refl, ap, _∙_}
 use mathlib.Core.Bool.{Bool, true, false, cond, _||_}
 use mathlib.Core.List.{List, [], _∷_, _++_}
 use lib.ListN.{length, take, replicate, length-append, length-replicate}
-use lib.Seq.{length-take-le}
+use lib.Seq.{length-take-le, take-at}
 use lib.Dec.{leb, ltb, eqb}
-use borrow.Author.Tests.{leb-true, leb-false, le-leb, lt-leb, ltb-true, ltb-false, eqb-true, eqb-false, eq-eqb}
+use borrow.Author.Tests.{leb-true, leb-false, le-leb, lt-leb, ltb-true, ltb-false, le-ltb, eqb-true, eqb-false, eq-eqb, ne-eqb}
 use Rattle.ledger.specs.Sets.{with}
 use Rattle.ledger.specs.Ends.{places, falling, endsFrom, heardAt, turned, withNumber, fitted}
 use Rattle.ledger.proofs.EndLaws.{falls-head, falls-tail, falls-cons, falls-under, from-none, missing-even}
@@ -34,6 +34,13 @@ turn-falls b x (e ∷ es) le h = go (ltb x e) refl (eqb x e) refl (λ (lt : x �
     go false p false q ih =
         let ne : x ≡ e → ⊥ = eqb-false x e q in
         falls-cons b x (e ∷ es) le (falls-cons x e es (omega (arith, ltb-false x e p)) (falls-tail b e es h))
+
+-- an end that is there goes, one above all others comes in front
+pub turn-out : (x : ℕ) (es : List ℕ) → turned x (x ∷ es) ≡ es
+turn-out x es = rw (le-ltb x x (omega arith), eq-eqb x x refl) refl
+
+pub turn-in : (x e : ℕ) (es : List ℕ) → e < x → turned x (e ∷ es) ≡ x ∷ e ∷ es
+turn-in x e es lt = rw (le-ltb x e (omega arith), ne-eqb x e (λ (q : x ≡ e). omega arith)) refl
 
 -- a number put in that was missing, and no other changes sides
 pub number-count : (n y : ℕ) (es : List ℕ) → endsFrom y (withNumber n es) % 2 ≡ (endsFrom y es + cond (leb y n) 1 0 + cond (leb y (n - 1)) 1 0) % 2
@@ -121,3 +128,6 @@ pub fitted-from : (b y : ℕ) (es : List ℕ) → falling b es ≡ true → 1 �
 fitted-from b y es h lo le =
     let one : endsFrom 1 (es ++ replicate places 0) ≤ places = omega (arith, from-append 1 es (replicate places 0), from-zeros 1 places (omega arith)) in
     from-take b y places (es ++ replicate places 0) (zeros-fall b places es h) lo one ∙ omega (arith, from-append y es (replicate places 0), from-zeros y places lo)
+
+pub fitted-same : (more : List ℕ) → length more ≡ places → fitted more ≡ more
+fitted-same more h = take-at more (replicate places 0) places h

@@ -13,12 +13,11 @@ use Rattle.ledger.specs.Ends.{places, falling, endsFrom, heardAt, highes
 use Rattle.ledger.specs.Calls.{mostNumber, mostRuns, arrivalNumber, figureNumber, runNumber, valid, arrivedOf, figureOf, runOf}
 use Rattle.ledger.specs.History.{Reached, Exactly20}
 use Rattle.ledger.specs.Calls.{withEnds}
-use Rattle.ledger.specs.declared.record.Ledger.{Ledger}
-use Rattle.ledger.specs.declared.record.Arrived.{Arrived}
-use Rattle.ledger.specs.declared.record.RunAt.{RunAt}
+use Rattle.ledger.specs.declared.Ledger.{Ledger}
+use Rattle.ledger.specs.declared.Arrived.{Arrived}
+use Rattle.ledger.specs.declared.RunAt.{RunAt}
 use Rattle.ledger.proofs.EndLaws.{falls-head, falls-tail, falls-cons, falls-under, falls-bound, from-none, from-length, even-missing}
-use Rattle.ledger.proofs.TurnLaws.{zeros-fall, from-append, from-zeros}
-use Rattle.ledger.proofs.TakeLaws.{turn-out, turn-in, fitted-same}
+use Rattle.ledger.proofs.TurnLaws.{turn-out, turn-in, zeros-fall, from-append, from-zeros, fitted-same}
 use Rattle.ledger.proofs.ArriveLaws.{arrive-new, arrive-damaged, valid-is, Arrives, outside, repeats, full, new, arrives}
 use Rattle.ledger.proofs.Series.{Good, good-valid, series-good}
 

@@ -5,11 +5,11 @@ use mathlib.Core.List.{List}
 use lib.ListN.{length, replicate}
 use lib.Dec.{ltb, eqb}
 use Rattle.ledger.specs.Ends.{places, falling, heardAt, highestIn, heardIn, missingIn, runsIn, firstOf, lastOf, withNumber, fitted}
-use Rattle.ledger.specs.declared.record.Ledger.{Ledger}
-use Rattle.ledger.specs.declared.record.Arrival.{Arrival}
-use Rattle.ledger.specs.declared.record.Arrived.{Arrived}
-use Rattle.ledger.specs.declared.record.Figure.{Figure}
-use Rattle.ledger.specs.declared.record.RunAt.{RunAt}
+use Rattle.ledger.specs.declared.Ledger.{Ledger}
+use Rattle.ledger.specs.declared.Arrival.{Arrival}
+use Rattle.ledger.specs.declared.Arrived.{Arrived}
+use Rattle.ledger.specs.declared.Figure.{Figure}
+use Rattle.ledger.specs.declared.RunAt.{RunAt}
 
 -- the largest number that may arrive, and the most runs that may be missing
 abbrev pub mostNumber : ℕ

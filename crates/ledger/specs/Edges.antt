@@ -4,9 +4,9 @@ use mathlib.Core.Path.{_≡_}
 use mathlib.Core.List.{List, [], _∷_}
 use Rattle.ledger.specs.Calls.{highestOf, heardOf, missingOf, runsOf, runOf}
 use Rattle.ledger.specs.History.{after, answerTo}
-use Rattle.ledger.specs.declared.record.Arrival.{Arrival}
-use Rattle.ledger.specs.declared.record.Figure.{Figure}
-use Rattle.ledger.specs.declared.record.RunAt.{RunAt}
+use Rattle.ledger.specs.declared.Arrival.{Arrival}
+use Rattle.ledger.specs.declared.Figure.{Figure}
+use Rattle.ledger.specs.declared.RunAt.{RunAt}
 
 -- the three arrivals, the latest first
 abbrev pub arrivals : List ℕ

@@ -7,10 +7,10 @@ use mathlib.Core.Logic.{_↔_}
 use lib.Dec.{ltb, eqb}
 use Rattle.ledger.specs.Sets.{with, runsTo, TrueOf}
 use Rattle.ledger.specs.Calls.{mostNumber, mostRuns, arrivalNumber, figureNumber, runNumber, fresh, arrivedOf, highestOf, heardOf, missingOf, runsOf, runOf}
-use Rattle.ledger.specs.declared.record.Ledger.{Ledger}
-use Rattle.ledger.specs.declared.record.Arrival.{Arrival}
-use Rattle.ledger.specs.declared.record.Figure.{Figure}
-use Rattle.ledger.specs.declared.record.RunAt.{RunAt}
+use Rattle.ledger.specs.declared.Ledger.{Ledger}
+use Rattle.ledger.specs.declared.Arrival.{Arrival}
+use Rattle.ledger.specs.declared.Figure.{Figure}
+use Rattle.ledger.specs.declared.RunAt.{RunAt}
 
 -- the ledger that a series leaves
 abbrev pub after : List ℕ → Ledger

@@ -4,4 +4,3 @@ pub mod Ends
 pub mod Calls
 pub mod History
 pub mod Edges
-pub mod Steps

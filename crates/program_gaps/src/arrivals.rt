@@ -1,9 +1,9 @@
 // The frames of format six as arrivals in a ledger.
 use answers::Answer;
 use answers::Frame;
-use ledger::calls::arrive;
-use ledger::record::Arrival;
-use ledger::record::Ledger;
+use ledger::Arrival;
+use ledger::Ledger;
+use ledger_arrivals::arrive;
 use walk::rows::Kept;
 use walk::rows::Row;
 

@@ -1,7 +1,7 @@
 // A line in pieces: the frames of what is read arrive, and what waits stays in front of the next piece.
 use crate::arrivals::Hearing;
 use crate::arrivals::with_row;
-use ledger::calls::clear;
+use ledger::clear;
 use libc::STDIN_FILENO;
 use printing::moving::move_down;
 use stock_lines::pieces::next_rows;

@@ -1,12 +1,12 @@
 // The report as text: some 2,000 bytes, so that it fits the output buffer whole.
 use crate::arrivals::Hearing;
-use ledger::calls::heard;
-use ledger::calls::highest;
-use ledger::calls::missing;
-use ledger::calls::run;
-use ledger::record::Figure;
-use ledger::record::Ledger;
-use ledger::record::RunAt;
+use ledger::Figure;
+use ledger::Ledger;
+use ledger::RunAt;
+use ledger_figures::heard;
+use ledger_figures::highest;
+use ledger_figures::missing;
+use ledger_figures::run;
 use printing::put;
 use printing::put_all;
 use printing::put_field;

@@ -1,17 +1,17 @@
 // Reads lines of at most 65,536 bytes. A number on a line arrives, and its answer is printed; at an empty line and at the end
 // stands what the ledger tells, and it is cleared. Numbers with spaces between are the ends of a record of their own, which is
 // lent to every call. tests/numbers/make.py makes the input.
-use ledger::calls::arrive;
-use ledger::calls::clear;
-use ledger::calls::heard;
-use ledger::calls::highest;
-use ledger::calls::missing;
-use ledger::calls::run;
-use ledger::calls::runs;
-use ledger::record::Arrival;
-use ledger::record::Figure;
-use ledger::record::Ledger;
-use ledger::record::RunAt;
+use ledger::Arrival;
+use ledger::Figure;
+use ledger::Ledger;
+use ledger::RunAt;
+use ledger::clear;
+use ledger_arrivals::arrive;
+use ledger_figures::heard;
+use ledger_figures::highest;
+use ledger_figures::missing;
+use ledger_figures::run;
+use ledger_figures::runs;
 use libc::STDIN_FILENO;
 use libc::STDOUT_FILENO;
 

@@ -2,9 +2,9 @@
 use mathlib.Core.Path.{_≡_, ap, _∙_}
 use lib.ListN.{length}
 use Rattle.ledger.specs.Ends.{places}
-use Rattle.ledger.specs.declared.record.Arrived.{Arrived}
+use Rattle.ledger.specs.declared.Arrived.{Arrived}
 use Rattle.c_ledger.specs.Outcomes.{arrivalOutcome}
-use Rattle.c_ledger.proofs.LentLaws.{lent-whole}
+use Rattle.ledger_arrivals.proofs.LentLaws.{lent-whole}
 use borrow.Author.Needs.{needs}
 use Rattle.c_ledger.proofs.trivsome_arrive.Statement.{statement}
 use Rattle.c_ledger.proofs.trivsome_arrive.Tie as tie

@@ -1,0 +1,2 @@
+-- What a look over the ends finds.
+pub mod Looking
