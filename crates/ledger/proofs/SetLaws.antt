@@ -120,9 +120,12 @@ true-same f g same highest heard missing runs first last t = record {
   is-heard = t .is-heard ∙ count-same f g highest (λ (y : ℕ) (lo : 1 ≤ y) (hi : y ≤ highest). same y lo);
   adds-up = t .adds-up;
   is-runs = t .is-runs ∙ runs-same f g highest (λ (y : ℕ) (lo : 1 ≤ y) (hi : y ≤ highest). same y lo);
-  each-longest = λ (k : ℕ) (lt : k < runs). longest-same f g same highest (first k) (last k) (t .each-longest k lt);
-  rising = t .rising;
-  every-longest = λ (a b : ℕ) (run : Longest g highest a b). t .every-longest a b (longest-same g f (λ (y : ℕ) (lo : 1 ≤ y). sym (same y lo)) highest a b run);
+  are-runs = record {
+    each-longest = λ (k : ℕ) (lt : k < runs). longest-same f g same highest (first k) (last k) (t .are-runs .each-longest k lt);
+    rising = t .are-runs .rising;
+    every-longest = λ (a b : ℕ) (run : Longest g highest a b).
+        t .are-runs .every-longest a b (longest-same g f (λ (y : ℕ) (lo : 1 ≤ y). sym (same y lo)) highest a b run);
+  };
 }
 
 -- a number put in: the highest is the larger one, and a number that is there already changes nothing

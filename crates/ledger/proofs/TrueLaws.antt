@@ -163,9 +163,7 @@ ends-true b es h = record {
   is-heard = sym (ends-heard b es (highestIn es) h (omega arith));
   adds-up = omega (arith, heard-under-highest es);
   is-runs = sym (ends-runs b es h .0);
-  each-longest = each;
-  rising = rise;
-  every-longest = every;
+  are-runs = record { each-longest = each; rising = rise; every-longest = every };
 }
   where
     each : (k : ℕ) → k < runsIn es → Longest (heardAt es) (highestIn es) (firstOf es k) (lastOf es k)

@@ -10,10 +10,11 @@ use lib.Seq.{take-at}
 use lib.Dec.{leb, ltb, eqb}
 use borrow.Author.Tests.{leb-true, leb-false, eqb-true, eqb-false, lt-ltb, le-ltb}
 use Rattle.ledger.specs.Ends.{places, falling, endsFrom, heardAt, highestIn, heardIn, missingIn, runsIn, firstOf, lastOf, turned, withNumber, fitted}
-use Rattle.ledger.specs.Calls.{mostNumber, mostRuns, arrivalNumber, figureNumber, runNumber, valid, arrivedOf, figureOf, runOf}
-use Rattle.ledger.specs.History.{Reached, Exactly20}
+use Rattle.ledger.specs.Calls.{mostNumber, mostRuns, arrivalNumber, figureNumber, runNumber, valid, stays, arrivedOf, lentArrivedOf, figureOf, runOf}
+use Rattle.ledger.specs.History.{Reached, Exactly20, LentExactly20}
 use Rattle.ledger.specs.Calls.{withEnds}
 use Rattle.ledger.specs.declared.Ledger.{Ledger}
+use Rattle.ledger.specs.declared.Arrival.{Arrival}
 use Rattle.ledger.specs.declared.Arrived.{Arrived}
 use Rattle.ledger.specs.declared.RunAt.{RunAt}
 use Rattle.ledger.proofs.EndLaws.{falls-head, falls-tail, falls-cons, falls-under, falls-bound, from-none, from-length, even-missing}
@@ -189,6 +190,21 @@ twenty-exactly l long = record {
   run = λ (k : ℕ). run-exactly l k long;
 }
 
+-- of a lent list of any length
+pub lent-twenty-exactly : (es : List ℕ) → LentExactly20 es
+lent-twenty-exactly es = record {
+  arrival = λ (n : ℕ). go n (eqb (length es) places) refl;
+  whole = λ (there : Reached (withEnds es)). reached-good (withEnds es) there .whole;
+}
+  where
+    go : (n : ℕ) (t : Bool) → eqb (length es) places ≡ t
+        → (arrivalNumber (cond t (arrivedOf (withEnds es) n) (stays (withEnds es) (Arrival.Refused 20)) .answer) ≡ 20) ↔ (Reached (withEnds es) → ⊥)
+    go n true p = twenty-exactly (withEnds es) (eqb-true (length es) places p) .arrival n
+    go n false p = (
+      λ (is : _≡_ {A = ℕ} 20 20) (there : Reached (withEnds es)). eqb-false (length es) places p (reached-good (withEnds es) there .whole),
+      λ (none : Reached (withEnds es) → ⊥). refl,
+    )
+
 -- a refusal leaves the ledger as it was
 kept-by : (l : Ledger) (n : ℕ) (r : Arrived) → Arrives l n r → 0 < arrivalNumber (r .answer) → r .ledger ≡ l
 kept-by l n r (outside o) refused = refl
@@ -202,3 +218,12 @@ refused-keeps l n refused = go (valid l) refl
     go : (t : Bool) → valid l ≡ t → arrivedOf l n .ledger ≡ l
     go true p = kept-by l n (arrivedOf l n) (arrives l n p) refused
     go false p = ap (λ (r : Arrived). r .ledger) (sym (arrive-damaged l n p))
+
+-- and lent ends too
+pub lent-refused-keeps : (es : List ℕ) (n : ℕ) → 0 < arrivalNumber (lentArrivedOf es n .answer) → lentArrivedOf es n .ledger ≡ withEnds es
+lent-refused-keeps es n = go (eqb (length es) places)
+  where
+    go : (t : Bool) → 0 < arrivalNumber (cond t (arrivedOf (withEnds es) n) (stays (withEnds es) (Arrival.Refused 20)) .answer)
+        → cond t (arrivedOf (withEnds es) n) (stays (withEnds es) (Arrival.Refused 20)) .ledger ≡ withEnds es
+    go true refused = refused-keeps (withEnds es) n refused
+    go false refused = refl

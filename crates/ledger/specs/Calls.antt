@@ -1,7 +1,8 @@
--- What each call answers, in the paper's order, and what an arrival leaves.
+-- What each call answers, in the order of the rules, and what an arrival leaves.
 use Prim.Native.Nat.{ℕ, _+_}
+use mathlib.Core.Path.{_≡_}
 use mathlib.Core.Bool.{Bool, cond, not, _||_}
-use mathlib.Core.List.{List}
+use mathlib.Core.List.{List, [], _∷_}
 use lib.ListN.{length, replicate}
 use lib.Dec.{ltb, eqb}
 use Rattle.ledger.specs.Ends.{places, falling, heardAt, highestIn, heardIn, missingIn, runsIn, firstOf, lastOf, withNumber, fitted}
@@ -18,19 +19,37 @@ mostNumber = 99999999
 abbrev pub mostRuns : ℕ
 mostRuns = 64
 
--- the paper's number of an answer, 0 for one that is no refusal
+-- the number of an arrival's answer, 0 for one that is no refusal
 abbrev pub arrivalNumber : Arrival → ℕ
 arrivalNumber Arrival.New = 0
 arrivalNumber Arrival.Repeat = 0
 arrivalNumber (Arrival.Refused n) = n
 
+-- the value beside it, how many numbers more are recorded: 1 if it is new, 0 if it is a repeat
+abbrev pub arrivalValues : Arrival → List ℕ
+arrivalValues Arrival.New = 1 ∷ []
+arrivalValues Arrival.Repeat = 0 ∷ []
+arrivalValues (Arrival.Refused n) = []
+
+-- the number of an answer to a question for a figure
 abbrev pub figureNumber : Figure → ℕ
 figureNumber (Figure.Is n) = 0
 figureNumber (Figure.Refused n) = n
 
+-- the value beside it: the figure
+abbrev pub figureValues : Figure → List ℕ
+figureValues (Figure.Is n) = n ∷ []
+figureValues (Figure.Refused n) = []
+
+-- the number of an answer to a question for a run
 abbrev pub runNumber : RunAt → ℕ
 runNumber (RunAt.Run first last) = 0
 runNumber (RunAt.Refused n) = n
+
+-- the values beside it: the run's first and its last number
+abbrev pub runValues : RunAt → List ℕ
+runValues (RunAt.Run first last) = first ∷ last ∷ []
+runValues (RunAt.Refused n) = []
 
 -- a fresh ledger: highest 0, heard 0, no runs
 abbrev pub fresh : Ledger
@@ -86,3 +105,17 @@ abbrev pub runOf : Ledger → ℕ → RunAt
 runOf l k =
     cond (not (valid l)) (RunAt.Refused 20)
     (cond (ltb k (runsIn (l .ends))) (RunAt.Run (firstOf (l .ends) k) (lastOf (l .ends) k)) (RunAt.Refused 23))
+
+-- values beside 0; a refusal returns its number alone
+abbrev pub beside : ℕ → List ℕ → List ℕ
+beside number values = cond (eqb number 0) values []
+
+-- what each call returns beside its answer's number, for every ledger and every list of ends
+pub record Returns (l : Ledger) : Type 0 where
+  pub arrival : (n : ℕ) → let a = arrivedOf l n .answer in arrivalValues a ≡ beside (arrivalNumber a) (cond (heardAt (l .ends) n) 0 1 ∷ [])
+  pub lent-arrival : (n : ℕ) → let a = lentArrivedOf (l .ends) n .answer in arrivalValues a ≡ beside (arrivalNumber a) (cond (heardAt (l .ends) n) 0 1 ∷ [])
+  pub highest : figureValues (highestOf l) ≡ beside (figureNumber (highestOf l)) (highestIn (l .ends) ∷ [])
+  pub heard : figureValues (heardOf l) ≡ beside (figureNumber (heardOf l)) (heardIn (l .ends) ∷ [])
+  pub missing : figureValues (missingOf l) ≡ beside (figureNumber (missingOf l)) (missingIn (l .ends) ∷ [])
+  pub runs : figureValues (runsOf l) ≡ beside (figureNumber (runsOf l)) (runsIn (l .ends) ∷ [])
+  pub run : (k : ℕ) → runValues (runOf l k) ≡ beside (runNumber (runOf l k)) (firstOf (l .ends) k ∷ lastOf (l .ends) k ∷ [])

@@ -4,9 +4,11 @@ use mathlib.Core.Path.{_≡_}
 use mathlib.Core.Bool.{Bool, false, cond, _&&_, _||_}
 use mathlib.Core.List.{List, [], _∷_}
 use mathlib.Core.Logic.{_↔_}
+use lib.ListN.{length}
 use lib.Dec.{ltb, eqb}
 use Rattle.ledger.specs.Sets.{with, runsTo, TrueOf}
-use Rattle.ledger.specs.Calls.{mostNumber, mostRuns, arrivalNumber, figureNumber, runNumber, fresh, arrivedOf, highestOf, heardOf, missingOf, runsOf, runOf}
+use Rattle.ledger.specs.Ends.{places}
+use Rattle.ledger.specs.Calls.{mostNumber, mostRuns, arrivalNumber, figureNumber, runNumber, fresh, withEnds, arrivedOf, lentArrivedOf, highestOf, heardOf, missingOf, runsOf, runOf}
 use Rattle.ledger.specs.declared.Ledger.{Ledger}
 use Rattle.ledger.specs.declared.Arrival.{Arrival}
 use Rattle.ledger.specs.declared.Figure.{Figure}
@@ -62,3 +64,8 @@ pub record Exactly20 (l : Ledger) : Type 0 where
   pub missing : (figureNumber (missingOf l) ≡ 20) ↔ (Reached l → ⊥)
   pub runs : (figureNumber (runsOf l) ≡ 20) ↔ (Reached l → ⊥)
   pub run : (k : ℕ) → (runNumber (runOf l k) ≡ 20) ↔ (Reached l → ⊥)
+
+-- an arrival in ends that are lent as a list of any length: none that a series leaves has another length than a record's
+pub record LentExactly20 (es : List ℕ) : Type 0 where
+  pub arrival : (n : ℕ) → (arrivalNumber (lentArrivedOf es n .answer) ≡ 20) ↔ (Reached (withEnds es) → ⊥)
+  pub whole : Reached (withEnds es) → length es ≡ places

@@ -36,12 +36,22 @@ pub record Longest (f : ℕ → Bool) (top first last : ℕ) : Type 0 where
   pub none-below : (first ≡ 1) ⊎ (f (first - 1) ≡ true)
   pub none-behind : (last ≡ top) ⊎ (f (last + 1) ≡ true)
 
--- figures and runs that are those of a set; the runs are its longest ones, each once, rising by their place
+-- runs that are the longest ones of a set, each at one place, rising by their place
+pub record RunsOf (f : ℕ → Bool) (top runs : ℕ) (first last : ℕ → ℕ) : Type 0 where
+  pub each-longest : (k : ℕ) → k < runs → Longest f top (first k) (last k)
+  pub rising : (j k : ℕ) → j < k → k < runs → last j < first k
+  pub every-longest : (a b : ℕ) → Longest f top a b → (k : ℕ) × (k < runs) × (first k ≡ a) × (last k ≡ b)
+
+-- a set has so many longest missing runs
+pub record HasRuns (f : ℕ → Bool) (top runs : ℕ) : Type 0 where
+  pub first : ℕ → ℕ
+  pub last : ℕ → ℕ
+  pub are-runs : RunsOf f top runs first last
+
+-- figures and runs that are those of a set
 pub record TrueOf (f : ℕ → Bool) (highest heard missing runs : ℕ) (first last : ℕ → ℕ) : Type 0 where
   pub is-highest : Highest f highest
   pub is-heard : heard ≡ countTo f highest
   pub adds-up : heard + missing ≡ highest
   pub is-runs : runs ≡ runsTo f highest
-  pub each-longest : (k : ℕ) → k < runs → Longest f highest (first k) (last k)
-  pub rising : (j k : ℕ) → j < k → k < runs → last j < first k
-  pub every-longest : (a b : ℕ) → Longest f highest a b → (k : ℕ) × (k < runs) × (first k ≡ a) × (last k ≡ b)
+  pub are-runs : RunsOf f highest runs first last
