@@ -1,6 +1,7 @@
 -- The laws that the proofs cite, and the theorems that belong to no one function.
 pub mod OutlineLaws
 pub mod FormatLaws
+pub mod FormatsLaws
 pub mod CodecLaws
 pub mod CloseLaws
 pub mod LengthSteps
