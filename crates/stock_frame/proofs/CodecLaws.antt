@@ -1,30 +1,23 @@
 -- Both round trips, once for every format: reading a written frame gives the message, writing a read message gives the bytes.
 use Prim.Native.Nat.{ℕ, _+_, _^_, _≤_, _<_}
 use mathlib.Core.Path.{_≡_, sym, ap, _∙_, subst}
-use mathlib.Core.Bool.{Bool, true, _&&_}
+use mathlib.Core.Bool.{true}
 use mathlib.Core.List.{List, [], _∷_, _++_}
 use native.Mathlib.Omega.{arith}
 use lib.ListN.{length, drop, length-drop}
-use lib.Dec.{leb, ltb}
-use borrow.Author.Tests.{ltb-true, lt-ltb, leb-true}
-use Rattle.digits.proofs.Bools.{and-left, and-right, and-both}
+use lib.Dec.{ltb}
+use borrow.Author.Tests.{ltb-true, lt-ltb}
+use Rattle.digits.proofs.TestLaws.{holds, all, _also_, together}
 use Rattle.layout.specs.Cells.{Cell, size, fits, encode}
 use Rattle.stock_frame.specs.Outline.{own, body, business, format, version, number, kindValues, kindCells}
 use Rattle.stock_frame.specs.Format.{valuesOf, ranged, around}
 use Rattle.stock_frame.specs.Writing.{frameAround, frameBytes}
-use Rattle.stock_frame.specs.Codec.{Codec, legal, frameOf}
+use Rattle.stock_frame.specs.Codec.{Codec, legalTests, legal, frameOf}
+pub use Rattle.stock_frame.specs.Reads.{Reads}
+use Rattle.stock_frame.specs.Reads.{Bodied}
 use Rattle.layout.proofs.CellLaws.{length-encode, fits-decode}
-use Rattle.stock_frame.proofs.OutlineLaws.{Outlined, length-frame, body-frame, kind-frame, own-frame, outlined-frame, own-frameAround, length-own, least-length}
-use Rattle.stock_frame.proofs.FormatLaws.{Bodied, values-encode, bodied-encode, encode-values, fits-values, size-body}
-
--- the bytes t begin with a frame of the codec's format that passes every row, and m is its message
-pub record Reads {M : Type 0} (C : Codec M) (t : List ℕ) (m : M) : Type 0 where
-  pub outlined : Outlined t
-  pub is-business : business (own t) ≡ 1
-  pub is-format : format (own t) ≡ C .form .number
-  pub is-version : version (own t) ≡ C .form .version
-  pub bodied : Bodied (C .form) (body (own t))
-  pub meant : m ≡ C .message (number (own t)) (valuesOf (C .form) (body (own t)))
+use Rattle.stock_frame.proofs.OutlineLaws.{length-frame, body-frame, kind-frame, own-frame, outlined-frame, own-frameAround, length-own, least-length}
+use Rattle.stock_frame.proofs.FormatLaws.{range-bounds, values-encode, bodied-encode, encode-values, fits-values, size-body}
 
 -- what a format has to show: a message that has its shape and the numbers that it stands for tell each other
 pub record Lawful {M : Type 0} (C : Codec M) (Shaped : M → Type 0) : Type 0 where
@@ -42,53 +35,32 @@ pub record Lawful {M : Type 0} (C : Codec M) (Shaped : M → Type 0) : Type 0 wh
 
 -- ---- what legal says, by name
 module _ {M : Type 0} (C : Codec M) (m : M) (l : legal C m ≡ true) where
-  abbrev after-seq : Bool
-  after-seq = ranged (C .form) (size (C .cells m)) && (C .form .levels (C .values m) && (fits (C .cells m) (C .values m) && (C .form .timed (C .values m) && (C .form .ruled (C .values m) && C .tidy m))))
-
-  l1 : after-seq ≡ true
-  l1 = and-right (ltb (C .seq m) (10 ^ 8)) _ l
-
-  l2 : (C .form .levels (C .values m) && (fits (C .cells m) (C .values m) && (C .form .timed (C .values m) && (C .form .ruled (C .values m) && C .tidy m)))) ≡ true
-  l2 = and-right (ranged (C .form) (size (C .cells m))) _ l1
-
-  l3 : (fits (C .cells m) (C .values m) && (C .form .timed (C .values m) && (C .form .ruled (C .values m) && C .tidy m))) ≡ true
-  l3 = and-right (C .form .levels (C .values m)) _ l2
-
-  l4 : (C .form .timed (C .values m) && (C .form .ruled (C .values m) && C .tidy m)) ≡ true
-  l4 = and-right (fits (C .cells m) (C .values m)) _ l3
-
-  l5 : (C .form .ruled (C .values m) && C .tidy m) ≡ true
-  l5 = and-right (C .form .timed (C .values m)) _ l4
-
   pub legal-seq : C .seq m < 10 ^ 8
-  legal-seq = ltb-true (C .seq m) (10 ^ 8) (and-left _ _ l)
+  legal-seq = ltb-true (C .seq m) (10 ^ 8) (holds (legalTests C m) l 0)
 
   pub legal-range : ranged (C .form) (size (C .cells m)) ≡ true
-  legal-range = and-left _ _ l1
+  legal-range = holds (legalTests C m) l 1
 
   pub legal-levels : C .form .levels (C .values m) ≡ true
-  legal-levels = and-left _ _ l2
+  legal-levels = holds (legalTests C m) l 2
 
   pub legal-fits : fits (C .cells m) (C .values m) ≡ true
-  legal-fits = and-left _ _ l3
+  legal-fits = holds (legalTests C m) l 3
 
   pub legal-timed : C .form .timed (C .values m) ≡ true
-  legal-timed = and-left _ _ l4
+  legal-timed = holds (legalTests C m) l 4
 
   pub legal-ruled : C .form .ruled (C .values m) ≡ true
-  legal-ruled = and-left _ _ l5
+  legal-ruled = holds (legalTests C m) l 5
 
   pub legal-tidy : C .tidy m ≡ true
-  legal-tidy = and-right (C .form .ruled (C .values m)) _ l5
+  legal-tidy = holds (legalTests C m) l 6
 
 -- ---- reading a written frame gives the message, whatever follows the frame
 module _ {M : Type 0} (C : Codec M) (Shaped : M → Type 0) (law : Lawful C Shaped) where
   module _ (m : M) (s : Shaped m) (l : legal C m ≡ true) where
-    range-low : C .form .least ≤ around + size (C .cells m)
-    range-low = leb-true (C .form .least) (around + size (C .cells m)) (and-left _ _ (legal-range C m l))
-
-    range-high : around + size (C .cells m) ≤ C .form .most
-    range-high = leb-true (around + size (C .cells m)) (C .form .most) (and-right (leb (C .form .least) (around + size (C .cells m))) _ (legal-range C m l))
+    in-range : (C .form .least ≤ around + size (C .cells m)) × (around + size (C .cells m) ≤ C .form .most)
+    in-range = range-bounds (C .form) (size (C .cells m)) (legal-range C m l)
 
     pub length-frameOf : length (frameOf C m) ≡ around + size (C .cells m)
     length-frameOf =
@@ -97,10 +69,10 @@ module _ {M : Type 0} (C : Codec M) (Shaped : M → Type 0) (law : Lawful C Shap
 
     module _ (r : List ℕ) where
       low-body : 1 ≤ length (encode (C .cells m) (C .values m))
-      low-body = omega (arith, law .low, range-low, length-encode (C .cells m) (C .values m) (legal-fits C m l))
+      low-body = omega (arith, law .low, in-range .0, length-encode (C .cells m) (C .values m) (legal-fits C m l))
 
       high-body : around + length (encode (C .cells m) (C .values m)) ≤ 1024
-      high-body = omega (arith, law .high, range-high, length-encode (C .cells m) (C .values m) (legal-fits C m l))
+      high-body = omega (arith, law .high, in-range .1, length-encode (C .cells m) (C .values m) (legal-fits C m l))
 
       pub own-frameOf : own (frameOf C m ++ r) ≡ frameOf C m
       own-frameOf =
@@ -150,35 +122,36 @@ module _ {M : Type 0} (C : Codec M) (Shaped : M → Type 0) (law : Lawful C Shap
     same-values : C .values m ≡ valuesOf (C .form) b
     same-values = ap (C .values) (rd .meant) ∙ law .values-message n b (rd .bodied)
 
-    same-seq : C .seq m ≡ n
-    same-seq = ap (C .seq) (rd .meant) ∙ law .seq-message n (valuesOf (C .form) b)
+    pub seq-read : C .seq m ≡ n
+    seq-read = ap (C .seq) (rd .meant) ∙ law .seq-message n (valuesOf (C .form) b)
 
     seq-lt : n < 10 ^ 8
     seq-lt =
         let f : fits kindCells (kindValues (own t)) ≡ true =
         fits-decode kindCells (drop 3 (own t)) (rw length-drop (omega (arith, length-own t (rd .outlined), least-length t (rd .outlined))))
         (rd .outlined .packed-head) in
-        ltb-true n (10 ^ 8) (and-left _ _
-        (and-right (ltb (version (own t)) 100) _ (and-right (ltb (format (own t)) 100) _ (and-right (ltb (business (own t)) 100) _ f))))
+        ltb-true n (10 ^ 8) (holds (ltb (business (own t)) 100 ∷ ltb (format (own t)) 100 ∷ ltb (version (own t)) 100 ∷ ltb n (10 ^ 8) ∷ true ∷ []) f 3)
 
     pub shaped-read : Shaped m
     shaped-read = subst Shaped (sym (rd .meant)) (law .shaped-message n b (rd .bodied))
 
     pub legal-read : legal C m ≡ true
     legal-read =
-        and-both (ap (λ (x : ℕ). ltb x (10 ^ 8)) same-seq ∙ lt-ltb n (10 ^ 8) seq-lt)
-        (and-both (ap (λ (x : List Cell). ranged (C .form) (size x)) same-cells ∙ ap (ranged (C .form)) (size-body (C .form) b (rd .bodied)) ∙ rd .bodied .within-range)
-        (and-both (ap (C .form .levels) same-values ∙ rd .bodied .levelled)
-        (and-both (ap (λ (x : List Cell). fits x (C .values m)) same-cells ∙ ap (fits (C .form .cells b)) same-values ∙ fits-values (C .form) b (rd .bodied))
-        (and-both (ap (C .form .timed) same-values ∙ rd .bodied .good-times)
-        (and-both (ap (C .form .ruled) same-values ∙ rd .bodied .good-fields)
-        (ap (C .tidy) (rd .meant) ∙ law .tidy-message n b (rd .bodied)))))))
+        together (legalTests C m)
+        ((ap (λ (x : ℕ). ltb x (10 ^ 8)) seq-read ∙ lt-ltb n (10 ^ 8) seq-lt)
+        also (ap (λ (x : List Cell). ranged (C .form) (size x)) same-cells ∙ ap (ranged (C .form)) (size-body (C .form) b (rd .bodied)) ∙ rd .bodied .within-range)
+        also (ap (C .form .levels) same-values ∙ rd .bodied .levelled)
+        also (ap (λ (x : List Cell). fits x (C .values m)) same-cells ∙ ap (fits (C .form .cells b)) same-values ∙ fits-values (C .form) b (rd .bodied))
+        also (ap (C .form .timed) same-values ∙ rd .bodied .good-times)
+        also (ap (C .form .ruled) same-values ∙ rd .bodied .good-fields)
+        also (ap (C .tidy) (rd .meant) ∙ law .tidy-message n b (rd .bodied))
+        also all)
 
     pub written-read : frameOf C m ≡ own t
     written-read =
         ap (λ (x : List Cell). frameBytes (C .form) (C .seq m) x (C .values m)) same-cells
         ∙ ap (λ (x : List ℕ). frameBytes (C .form) (C .seq m) (C .form .cells b) x) same-values
-        ∙ ap (λ (x : ℕ). frameBytes (C .form) x (C .form .cells b) (valuesOf (C .form) b)) same-seq
+        ∙ ap (λ (x : ℕ). frameBytes (C .form) x (C .form .cells b) (valuesOf (C .form) b)) seq-read
         ∙ ap (frameAround (C .form .number) (C .form .version) n) (encode-values (C .form) b (rd .bodied))
         ∙ ap (λ (x : ℕ). frameAround x (C .form .version) n b) (sym (rd .is-format))
         ∙ ap (λ (x : ℕ). frameAround (format (own t)) x n b) (sym (rd .is-version))

@@ -1,27 +1,27 @@
 -- A body written is read, and a body that passes its rows is one that was written so.
-use Prim.Native.Nat.{ℕ}
+use Prim.Native.Nat.{ℕ, _+_, _≤_}
 use mathlib.Core.Path.{_≡_, sym, ap, _∙_}
 use mathlib.Core.Bool.{true}
-use mathlib.Core.List.{List, [], append-nil}
+use mathlib.Core.List.{List, [], _∷_, append-nil}
 use native.Mathlib.Omega.{arith}
 use lib.ListN.{length, take, drop}
-use lib.Dec.{eqb}
-use borrow.Author.Tests.{eq-eqb, eqb-true}
+use lib.Dec.{eqb, leb}
+use borrow.Author.Tests.{eq-eqb, eqb-true, leb-true}
+use Rattle.digits.proofs.TestLaws.{holds}
 use Rattle.layout.specs.Cells.{Cell, size, goodCells, decode, fits, encode}
 use Rattle.layout.specs.Rows.{firstFail}
-use Rattle.stock_frame.specs.Format.{Format, valuesOf, ranged, bodyRows}
+use Rattle.stock_frame.specs.Format.{Format, valuesOf, around, ranged, bodyRows}
+pub use Rattle.stock_frame.specs.Reads.{Bodied}
 use Rattle.layout.proofs.CellLaws.{length-encode, good-encode, decode-encode, encode-decode, fits-decode}
 use Rattle.layout.proofs.RowLaws.{row-holds, rows-after}
 
--- ---- the rows by their names
-pub record Bodied (F : Format) (b : List ℕ) : Type 0 where
-  pub within-range : ranged F (length b) ≡ true
-  pub levelled : F .levels (valuesOf F b) ≡ true
-  pub sized : eqb (size (F .cells b)) (length b) ≡ true
-  pub good-digits : goodCells (F .cells b) b ≡ true
-  pub good-times : F .timed (valuesOf F b) ≡ true
-  pub good-fields : F .ruled (valuesOf F b) ≡ true
+-- a body's length is in the format's range
+pub range-bounds : (F : Format) (n : ℕ) → ranged F n ≡ true → (F .least ≤ around + n) × (around + n ≤ F .most)
+range-bounds F n r =
+    let tests = leb (F .least) (around + n) ∷ leb (around + n) (F .most) ∷ [] in
+    (leb-true (F .least) (around + n) (holds tests r 0), leb-true (around + n) (F .most) (holds tests r 1))
 
+-- ---- the rows by their names
 module _ (F : Format) (b : List ℕ) where
   pub bodied-passes : Bodied F b → firstFail (bodyRows F b) ≡ 0
   bodied-passes o = rw (o .within-range, o .levelled, o .sized, o .good-digits, o .good-times, o .good-fields)

@@ -9,4 +9,6 @@ pub mod OutlineSteps
 pub mod PartLaws
 pub mod BodyRowLaws
 pub mod MessageLaws
+pub mod CheckLaws
+pub mod FigureLaws
 pub mod Determined

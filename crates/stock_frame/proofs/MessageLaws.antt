@@ -7,8 +7,9 @@ use native.Mathlib.Omega.{arith}
 use lib.ListN.{length, take, drop}
 use lib.Seq.{sets, length-sets}
 use lib.Dec.{leb}
-use borrow.Author.Tests.{lt-ltb, le-leb, lt-leb, leb-true}
-use Rattle.digits.proofs.Bools.{and-left, and-right, and-both}
+use borrow.Author.Tests.{lt-ltb, le-leb, lt-leb}
+use Rattle.digits.proofs.Bools.{and-both}
+use Rattle.digits.proofs.TestLaws.{all, _also_, together}
 use Rattle.digits.proofs.FieldLaws.{taken-sets}
 use Rattle.layout.specs.Cells.{size, encode}
 use Rattle.answers.specs.Answers.{writtenNumber}
@@ -19,6 +20,7 @@ use Rattle.answers.specs.declared.Written.{Written}
 use Rattle.answers.specs.declared.Written.the-variants.{Done, Illegal, NoRoom}
 use Rattle.layout.proofs.CellLaws.{length-encode}
 use Rattle.layout.proofs.PutLaws.{drop-sets}
+use Rattle.stock_frame.proofs.FormatLaws.{range-bounds}
 use Rattle.stock_frame.proofs.CodecLaws.{Lawful, legal-seq, legal-range, legal-fits, length-frameOf}
 
 -- ---- closing around a body that was put at its place
@@ -73,13 +75,14 @@ module _ {M : Type 0} (C : Codec M) (Shaped : M → Type 0) (law : Lawful C Shap
 
   frame-closable : closable (C .form .number) (C .form .version) (C .seq m) whole ≡ true
   frame-closable =
-      let r = legal-range C m l in
-      let low : C .form .least ≤ whole = leb-true (C .form .least) whole (and-left _ _ r) in
-      let high : whole ≤ C .form .most = leb-true whole (C .form .most) (and-right (leb (C .form .least) whole) _ r) in
-      and-both (lt-ltb (C .form .number) 100 (law .number-fits))
-      (and-both (lt-ltb (C .form .version) 100 (law .version-fits))
-      (and-both (lt-ltb (C .seq m) (10 ^ 8) (legal-seq C m l))
-      (and-both (le-leb 14 whole (omega (arith, law .low))) (le-leb whole 1024 (omega (arith, law .high))))))
+      let range = range-bounds (C .form) (size (C .cells m)) (legal-range C m l) in
+      together _
+      (lt-ltb (C .form .number) 100 (law .number-fits)
+      also lt-ltb (C .form .version) 100 (law .version-fits)
+      also lt-ltb (C .seq m) (10 ^ 8) (legal-seq C m l)
+      also le-leb 14 whole (omega (arith, law .low, range .0))
+      also le-leb whole 1024 (omega (arith, law .high, range .1))
+      also all)
 
   -- the buffer is too short
   pub message-short : (buf : List ℕ) → length buf < whole

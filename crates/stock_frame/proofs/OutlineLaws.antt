@@ -1,7 +1,7 @@
 -- The common frame written is read, and a whole outline is one that was written so; whatever bytes follow.
 use Prim.Native.Nat.{ℕ, zero, suc, _+_, _-_, _^_, _≤_, _<_}
 use mathlib.Core.Path.{_≡_, refl, sym, ap, ap₂, _∙_}
-use mathlib.Core.Bool.{true, _&&_}
+use mathlib.Core.Bool.{true}
 use mathlib.Core.List.{List, [], _∷_, _++_, append-assoc}
 use native.Mathlib.Omega.{arith}
 use lib.ListN.{length, getD, take, drop, length-append, length-drop, take-append-drop}
@@ -11,26 +11,18 @@ use borrow.Author.Tests.{lt-ltb, eq-eqb, le-leb, leb-true, eqb-true}
 use Rattle.digits.specs.Packed.{goodField, value, packed}
 use Rattle.digits.proofs.PackedLaws.{length-packed, value-field-packed, good-field-packed}
 use Rattle.digits.proofs.Bools.{and-left, and-right, and-both}
+use Rattle.digits.proofs.TestLaws.{holds}
 use Rattle.layout.specs.Cells.{goodCells, decode, fits, encode}
 use Rattle.layout.specs.Rows.{firstFail}
 use Rattle.words.specs.Check.{xorOf}
 use Rattle.stock_frame.specs.Outline.{business, format, version, number, lengthBytes, lengthOf, own, inner, body, kindCells, headCells, kindValues, checkByte, ended, lengthRight, outlineRows}
 use Rattle.stock_frame.specs.Format.{around}
+pub use Rattle.stock_frame.specs.Reads.{Outlined}
 use Rattle.stock_frame.specs.Writing.{sealed, frameAround}
 use Rattle.layout.proofs.CellLaws.{length-encode, good-encode, decode-encode, encode-decode}
 use Rattle.layout.proofs.RowLaws.{row-holds, rows-after}
 
 -- ---- the rows by their names
-pub record Outlined (t : List ℕ) : Type 0 where
-  pub some : leb 1 (length t) ≡ true
-  pub starts : eqb (getD t 0 0) 27 ≡ true
-  pub headed : leb 3 (length t) ≡ true
-  pub lengthed : lengthRight t ≡ true
-  pub whole : leb (lengthOf t) (length t) ≡ true
-  pub ends : ended (own t) ≡ true
-  pub checked : eqb (checkByte (own t)) (xorOf (inner (own t))) ≡ true
-  pub packed-head : goodCells kindCells (drop 3 (own t)) ≡ true
-
 module _ (t : List ℕ) where
   pub outlined-passes : Outlined t → firstFail (outlineRows t) ≡ 0
   outlined-passes o =
@@ -187,12 +179,15 @@ length-bytes-taken (suc (suc (suc n))) [] h k = absurd (omega arith)
 length-bytes-taken (suc (suc (suc n))) (a ∷ []) h k = absurd (omega arith)
 length-bytes-taken (suc (suc (suc n))) (a ∷ b ∷ []) h k = absurd (omega arith)
 
-module _ (t : List ℕ) (o : Outlined t) where
-  range : (leb 14 (lengthOf t) && leb (lengthOf t) 1024) ≡ true
-  range = and-right (goodField 4 (lengthBytes t)) _ (o .lengthed)
+-- a right length is within its bounds
+pub right-length : (t : List ℕ) → lengthRight t ≡ true → (14 ≤ lengthOf t) × (lengthOf t ≤ 1024)
+right-length t r =
+    let tests = goodField 4 (lengthBytes t) ∷ leb 14 (lengthOf t) ∷ leb (lengthOf t) 1024 ∷ [] in
+    (leb-true 14 (lengthOf t) (holds tests r 1), leb-true (lengthOf t) 1024 (holds tests r 2))
 
+module _ (t : List ℕ) (o : Outlined t) where
   pub least-length : 14 ≤ lengthOf t
-  least-length = leb-true 14 (lengthOf t) (and-left _ _ range)
+  least-length = right-length t (o .lengthed) .0
 
   pub within-line : lengthOf t ≤ length t
   within-line = leb-true (lengthOf t) (length t) (o .whole)

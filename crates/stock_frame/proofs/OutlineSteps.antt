@@ -7,11 +7,12 @@ use native.Mathlib.Omega.{arith}
 use lib.ListN.{length, getD, take, drop, length-drop}
 use lib.Seq.{drop-cons, take-length, take-take, getD-take, getD-drop, length-take-le}
 use lib.Dec.{eqb, leb}
-use borrow.Author.Tests.{eq-eqb, ne-eqb, le-leb, lt-leb, leb-true}
+use borrow.Author.Tests.{eq-eqb, ne-eqb, le-leb, lt-leb}
 use Rattle.digits.specs.Packed.{goodByte, good, two, value, goodField}
 use Rattle.words.specs.Blocks.{blockOf, noBlock, blockAt}
 use Rattle.words.specs.declared.blocks.Block.{Block}
-use Rattle.digits.proofs.Bools.{and-left, and-right, and-both}
+use Rattle.digits.proofs.Bools.{and-left, and-both}
+use Rattle.digits.proofs.TestLaws.{holds}
 use Rattle.digits.proofs.PackedLaws.{two-lt}
 use Rattle.layout.specs.Cells.{goodCells, decode}
 use Rattle.layout.specs.Rows.{Row, must, firstFail}
@@ -20,7 +21,7 @@ use Rattle.words.specs.Check.{xorOf}
 use Rattle.stock_frame.specs.Outline.{lengthBytes, lengthOf, own, inner, kindCells, checkByte, ended, lengthRight, outlineRows, headOf, outlineOf}
 use Rattle.answers.specs.declared.Answer.the-variants.{NoFrame, Refused}
 use Rattle.stock_frame.specs.declared.head.Outline.the-variants.{Whole, Not}
-use Rattle.stock_frame.proofs.OutlineLaws.{length-bytes-taken}
+use Rattle.stock_frame.proofs.OutlineLaws.{length-bytes-taken, right-length}
 use Rattle.layout.proofs.WholeLaws.{good-wholes}
 use Rattle.stock_frame.proofs.LengthSteps.{lengthIn}
 
@@ -83,13 +84,9 @@ pub head-kind : (x : ℕ) (g : List ℕ) → 3 ≤ length g → good (take 7 g) 
     → value (take 4 (take 8 (x ∷ g))) % 1000000
     ≡ (getD (decode kindCells g) 0 0 * 100 + getD (decode kindCells g) 1 0) * 100 + getD (decode kindCells g) 2 0
 head-kind x (a ∷ b ∷ c ∷ g) l h =
-    let ga = and-left (goodByte a) _ h in
-    let hb = and-right (goodByte a) _ h in
-    let gb = and-left (goodByte b) _ hb in
-    let hc = and-right (goodByte b) _ hb in
-    let gc = and-left (goodByte c) _ hc in
+    let tests = goodByte a ∷ goodByte b ∷ goodByte c ∷ good (take 4 g) ∷ [] in
     let e : ((0 + two a) * 100 + (0 + two b)) * 100 + (0 + two c) ≡ (two a * 100 + two b) * 100 + two c = omega arith in
-    six-digits (0 + two x) (two a) (two b) (two c) (two-lt a ga) (two-lt b gb) (two-lt c gc) ∙ sym e
+    six-digits (0 + two x) (two a) (two b) (two c) (two-lt a (holds tests h 0)) (two-lt b (holds tests h 1)) (two-lt c (holds tests h 2)) ∙ sym e
 head-kind x [] l h = absurd (omega arith)
 head-kind x (a ∷ []) l h = absurd (omega arith)
 head-kind x (a ∷ b ∷ []) l h = absurd (omega arith)
@@ -118,10 +115,7 @@ module _ (t : List ℕ) (three : 3 ≤ length t) where
   pub length-last : lengthRight t ≡ true → goodByte (getD t 2 0) ≡ true
   length-last right =
       let g : good (getD t 1 0 ∷ getD t 2 0 ∷ []) ≡ true = ap good (sym (length-bytes t three)) ∙ and-left (good (lengthBytes t)) _ (and-left (goodField 4 (lengthBytes t)) _ right) in
-      and-left (goodByte (getD t 2 0)) true (and-right (goodByte (getD t 1 0)) _ g)
-
-  pub length-least : lengthRight t ≡ true → 14 ≤ lengthOf t
-  length-least right = leb-true 14 (lengthOf t) (and-left (leb 14 (lengthOf t)) _ (and-right (goodField 4 (lengthBytes t)) _ right))
+      holds (goodByte (getD t 1 0) ∷ goodByte (getD t 2 0) ∷ true ∷ []) g 1
 
   module _ (n : ℕ) (is : n ≡ lengthIn (getD t 1 0) (getD t 2 0)) where
     by-test : n ≡ cond (lengthRight t) (lengthOf t) 0
@@ -132,7 +126,7 @@ module _ (t : List ℕ) (three : 3 ≤ length t) where
       where
         go : (r : Bool) → lengthRight t ≡ r → n ≡ cond r (lengthOf t) 0 → r ≡ false
         go false e q = refl
-        go true e q = absurd (omega (arith, length-least e))
+        go true e q = absurd (omega (arith, right-length t e .0))
 
     pub length-some : (n ≡ 0 → ⊥) → (lengthRight t ≡ true) × (n ≡ lengthOf t)
     length-some some = go (lengthRight t) by-test
@@ -149,7 +143,7 @@ lastRows f = must 4 (ended f) ∷ must 5 (eqb (checkByte f) (xorOf (inner f))) �
 
 module _ (t : List ℕ) (starts : getD t 0 0 ≡ 27) (three : 3 ≤ length t) (right : lengthRight t ≡ true) (whole : lengthOf t ≤ length t) where
   least : 14 ≤ lengthOf t
-  least = length-least t three right
+  least = right-length t right .0
 
   own-bytes : lengthBytes (own t) ≡ lengthBytes t
   own-bytes = length-bytes-taken (lengthOf t) t (omega (arith, least)) three

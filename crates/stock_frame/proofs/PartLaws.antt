@@ -12,11 +12,12 @@ use Rattle.digits.specs.Packed.{goodField, value}
 use Rattle.layout.specs.Rows.{firstFail}
 use Rattle.answers.specs.Answers.{named}
 use Rattle.stock_frame.specs.Outline.{lengthBytes, lengthOf, own, body, lengthRight, outlineRows, headOf, outlineOf}
+use Rattle.stock_frame.specs.Reads.{Outlined}
 use Rattle.stock_frame.specs.declared.head.Head.{Head}
 use Rattle.answers.specs.declared.Answer.{Answer}
 use Rattle.answers.specs.declared.Answer.the-variants.{NoFrame}
 use Rattle.stock_frame.specs.declared.head.Outline.the-variants.{Whole, Not}
-use Rattle.stock_frame.proofs.OutlineLaws.{Outlined, passes-outlined, length-own, least-length}
+use Rattle.stock_frame.proofs.OutlineLaws.{passes-outlined, length-own, least-length}
 use Rattle.stock_frame.proofs.OutlineSteps.{answered, row-none, row-first, row-three, row-length, row-whole, outline-own}
 
 -- ---- what the answer tells

@@ -4,3 +4,6 @@ pub mod Format
 pub mod Formats
 pub mod Writing
 pub mod Codec
+pub mod Checks
+pub mod Reads
+pub mod Figures
