@@ -17,7 +17,7 @@ use Rattle.layout.specs.Rows.{firstFail}
 use Rattle.words.specs.Check.{xorOf}
 use Rattle.stock_frame.specs.Outline.{business, format, version, number, lengthBytes, lengthOf, own, inner, body, kindCells, headCells, kindValues, checkByte, ended, lengthRight, outlineRows}
 use Rattle.stock_frame.specs.Format.{around}
-pub use Rattle.stock_frame.specs.Reads.{Outlined}
+use Rattle.stock_frame.specs.Reads.{Outlined}
 use Rattle.stock_frame.specs.Writing.{sealed, frameAround}
 use Rattle.layout.proofs.CellLaws.{length-encode, good-encode, decode-encode, encode-decode}
 use Rattle.layout.proofs.RowLaws.{row-holds, rows-after}

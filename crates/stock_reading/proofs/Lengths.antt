@@ -1,20 +1,19 @@
 -- The length beside an answer: a whole frame stands within the bytes, and a reading waits for no more than the longest frame.
 use Prim.Native.Nat.{ℕ, _+_, _≤_, _<_}
 use mathlib.Core.Path.{_≡_, refl, sym, ap, _∙_}
-use mathlib.Core.Bool.{Bool, true, false, cond, _&&_}
+use mathlib.Core.Bool.{Bool, true, false, cond}
 use mathlib.Core.List.{List, _∷_, _++_}
 use native.Mathlib.Omega.{arith}
 use lib.ListN.{length, getD, drop}
 use lib.Dec.{eqb, leb}
 use borrow.Author.Tests.{eqb-false, leb-true, leb-false}
 use Rattle.words.specs.Check.{xorOf}
-use Rattle.digits.specs.Packed.{goodField}
-use Rattle.digits.proofs.Bools.{and-left, and-right}
 use Rattle.layout.specs.Cells.{goodCells}
 use Rattle.layout.specs.Rows.{Row, must, firstFail}
 use Rattle.answers.specs.Answers.{named, answerNumber, answerLength}
-use Rattle.stock_frame.specs.Outline.{lengthBytes, lengthOf, own, body, inner, business, format, version, number, checkByte, ended, lengthRight, kindCells}
+use Rattle.stock_frame.specs.Outline.{lengthOf, own, body, inner, business, format, version, number, checkByte, ended, lengthRight, kindCells}
 use Rattle.stock_frame.specs.Format.{bodyRows}
+use Rattle.stock_frame.proofs.OutlineLaws.{right-length}
 use Rattle.answers.specs.declared.Frame.{Frame}
 use Rattle.answers.specs.declared.Answer.the-variants.{Accepted, NoFrame, Refused}
 use Rattle.layout.proofs.RowLaws.{pass, row-passed, silent, silent-answers}
@@ -55,11 +54,6 @@ module _ (t : List ℕ) where
   unfolding rows
   from-none = sym (answer-number t)
 
-  right-length : lengthRight t ≡ true → (14 ≤ lengthOf t) × (lengthOf t ≤ 1024)
-  right-length r =
-      let both = and-right (goodField 4 (lengthBytes t)) (leb 14 (lengthOf t) && leb (lengthOf t) 1024) r in
-      (leb-true 14 (lengthOf t) (and-left (leb 14 (lengthOf t)) (leb (lengthOf t) 1024) both), leb-true (lengthOf t) 1024 (and-right (leb 14 (lengthOf t)) (leb (lengthOf t) 1024) both))
-
   -- an answer that is none of 1 to 5 speaks of a frame that stands within the bytes
   pub whole-within : (1 ≤ answerNumber (answerOf t) → answerNumber (answerOf t) ≤ 5 → ⊥)
       → (14 ≤ answerLength (answerOf t)) × (answerLength (answerOf t) ≤ length t)
@@ -75,7 +69,7 @@ module _ (t : List ℕ) where
       let size : answerLength (answerOf t) ≡ lengthOf t =
       length-named (firstFail (rows t)) (record { format = format (own t); seq = number (own t); length = lengthOf t })
       (λ p q. h (omega (arith, p, answer-number t)) (omega (arith, q, answer-number t))) in
-      (omega (arith, size, right-length (whole .0) .0), omega (arith, size, leb-true (lengthOf t) (length t) (ends .0)))
+      (omega (arith, size, right-length t (whole .0) .0), omega (arith, size, leb-true (lengthOf t) (length t) (ends .0)))
 
   -- where a reading waits there are fewer bytes than the longest frame has
   pub waits-short : answerNumber (answerOf t) ≡ 2 → length t < 1024
@@ -92,7 +86,7 @@ module _ (t : List ℕ) where
 
           row-passes : leb (lengthOf t) (length t) ≡ true → firstFail from-whole ≡ answerNumber (answerOf t) → firstFail from-end ≡ answerNumber (answerOf t)
           row-passes x y = sym (pass 2 from-end x) ∙ y
-      whole r p false q = omega (arith, leb-false (lengthOf t) (length t) q, right-length r .1)
+      whole r p false q = omega (arith, leb-false (lengthOf t) (length t) q, right-length t r .1)
 
       three : firstFail from-three ≡ answerNumber (answerOf t) → (b : Bool) → leb 3 (length t) ≡ b → length t < 1024
       three p true q =

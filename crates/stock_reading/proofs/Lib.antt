@@ -1,5 +1,7 @@
 -- The laws that the proofs cite, and the theorems that belong to no one function.
+pub mod HeaderLaws
 pub mod ReadingLaws
+pub mod PlaceLaws
 pub mod Trips
 pub mod EdgesHold
 pub mod MoreBytes

@@ -1,4 +1,5 @@
--- What a reading may say, the steps of reading it, and the edges of the paper.
+-- What a reading may say, the steps of reading it, what reading and writing promise of each other, and the starred edges.
 pub mod Reading
 pub mod Steps
+pub mod Trips
 pub mod Edges

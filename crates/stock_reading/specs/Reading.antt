@@ -1,6 +1,6 @@
 -- What a reading may say of the bytes from a place: the checks in their order, and the message of an accepted frame.
 use Prim.Native.Nat.{ℕ, _+_}
-use mathlib.Core.Bool.{Bool, cond, _&&_, _||_}
+use mathlib.Core.Bool.{Bool, cond, _&&_}
 use mathlib.Core.List.{List, [], _∷_, _++_}
 use lib.ListN.{length}
 use lib.Dec.{eqb}
@@ -8,6 +8,7 @@ use Rattle.layout.specs.Rows.{Row, must, firstFail}
 use Rattle.answers.specs.Answers.{named}
 use Rattle.stock_frame.specs.Outline.{lengthOf, own, body, business, format, version, number, outlineRows}
 use Rattle.stock_frame.specs.Format.{Format, valuesOf, bodyRows}
+use Rattle.stock_frame.specs.Formats.{isOneOf, firstOf}
 use Rattle.stock_frame.specs.Codec.{Codec}
 use Rattle.answers.specs.declared.Answer.{Answer}
 use Rattle.stock_notices.specs.Notices.{five, fiveCodec, noNotice}
@@ -19,14 +20,19 @@ use Rattle.stock_prices.specs.declared.PricesReading.{PricesReading}
 use Rattle.stock_halts.specs.Halts.{nineteen, nineteenCodec, noHalt}
 use Rattle.stock_halts.specs.declared.HaltReading.{HaltReading}
 
--- the four formats by their numbers; row 7 keeps every other number away
-unfoldable pub formatOf : ℕ → Format
-formatOf n = cond (eqb n 6) six (cond (eqb n 12) twelve (cond (eqb n 19) nineteen five))
+-- the stock exchange's formats
+abbrev pub formats : List Format
+formats = five ∷ six ∷ twelve ∷ nineteen ∷ []
 
+-- the number of one of them
 abbrev pub isFormat : ℕ → Bool
-isFormat n = eqb n 5 || (eqb n 6 || (eqb n 12 || eqb n 19))
+isFormat n = isOneOf formats n
 
--- business 01 and one of the four formats, then its version
+-- the format of a number; check 7 keeps every number away that is none of theirs
+unfoldable pub formatOf : ℕ → Format
+formatOf n = firstOf formats five n
+
+-- business 01 and one of the formats, then its version
 abbrev pub kindRows : ℕ → ℕ → ℕ → List Row
 kindRows business format version =
     must 7 (eqb business 1 && isFormat format)

@@ -1,7 +1,7 @@
 -- What the steps of a reading hand on to each other: the rows behind the outline, by the header's six digits.
 use Prim.Native.Nat.{ℕ, _+_, _-_, _*_, _/_, _%_, _≤_}
 use mathlib.Core.Path.{_≡_}
-use mathlib.Core.Bool.{Bool, false, cond, _&&_}
+use mathlib.Core.Bool.{Bool, false}
 use mathlib.Core.List.{List, _++_}
 use lib.ListN.{length, take, drop}
 use lib.Dec.{eqb}
@@ -9,13 +9,12 @@ use Rattle.layout.specs.Rows.{firstFail}
 use Rattle.answers.specs.Answers.{named}
 use Rattle.stock_frame.specs.Format.{Format, bodyRows, around}
 use Rattle.answers.specs.declared.Answer.{Answer}
-use Rattle.answers.specs.declared.Answer.the-variants.{Refused}
 use Rattle.stock_frame.specs.Outline.{own, body, outlineOf}
 use Rattle.stock_frame.specs.declared.head.Outline.{Outline}
 use Rattle.stock_reading.specs.declared.reading.Whole.{Whole}
 use Rattle.stock_reading.specs.declared.reading.Found.{Found}
 use Rattle.stock_reading.specs.declared.reading.Found.the-variants.{At, None}
-use Rattle.stock_reading.specs.Reading.{formatOf, isFormat, kindRows, answerOf}
+use Rattle.stock_reading.specs.Reading.{formatOf, kindRows, answerOf}
 
 -- business, format and version as six digits
 abbrev pub kindOf : Format → ℕ
@@ -27,10 +26,6 @@ afterOutline kind seq b =
     let format = kind / 100 % 100 in
     named (firstFail (kindRows (kind / 10000) format (kind % 100) ++ bodyRows (formatOf format) b))
     (record { format = format; seq = seq; length = around + length b })
-
--- a header that is none of the four: 7 for its business or format, else 8
-abbrev pub kindRefused : ℕ → ℕ → Answer
-kindRefused kind length = cond (eqb (kind / 10000) 1 && isFormat (kind / 100 % 100)) (Refused 8 length) (Refused 7 length)
 
 -- a frame's outline is whole at a place: its header, and where its body stands on the line
 pub record WholeAt (line : List ℕ) (at : ℕ) (w : Whole) : Type 0 where

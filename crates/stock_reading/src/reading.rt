@@ -3,14 +3,18 @@ ghost use mathlib.Core.Path.{_≡_};
 ghost use Prim.Native.Nat.{_+_};
 ghost use lib.ListN.{length, drop};
 ghost use Rattle.stock_reading.specs.Reading.{answerOf, noticeAt, quoteAt, pricesAt, haltAt};
-ghost use Rattle.stock_reading.specs.Steps.{afterOutline, kindRefused, foundSays, kindSays};
+ghost use Rattle.stock_reading.specs.Steps.{afterOutline, foundSays, kindSays};
 use answers::Answer;
 use stock_frame::head::Outline;
 use stock_frame::outline::outline;
 use stock_halts::HaltReading;
+use stock_halts::read as halt_in;
 use stock_notices::NoticeReading;
+use stock_notices::read as notice_in;
 use stock_prices::PricesReading;
+use stock_prices::read as prices_in;
 use stock_quotes::quote::QuoteReading;
+use stock_quotes::reading::read as quote_in;
 
 // Business 01 with a format and its version, as six digits.
 const FIVE: u32 = 10501;
@@ -56,54 +60,45 @@ fn find(line: &[u8], at: usize) -> Found
     }
 }
 
-// A header that names no format with its version: 7 for the business or the format, else 8.
-fn refused(kind: u32, n: usize) -> Answer
-    ensures { λ r. ⌜ r ≡ kindRefused kind n ⌝ }
-{
-    let format = kind / 100 % 100;
-    if kind / 10000 != 1 {
-        return Answer::Refused(7, n);
-    }
-    if format == 5 {
-        return Answer::Refused(8, n);
-    }
-    if format == 6 {
-        return Answer::Refused(8, n);
-    }
-    if format == 12 {
-        return Answer::Refused(8, n);
-    }
-    if format == 19 {
-        return Answer::Refused(8, n);
-    }
-    Answer::Refused(7, n)
-}
-
-// What the rows behind the outline answer, of a body and its frame's header.
+// What the checks behind the outline answer, of a body and its frame's header: 7 where it names no format, 8 for another version.
 fn answer_of(body: &[u8], kind: u32, seq: u32) -> Answer
     ensures { λ r. ⌜ r ≡ afterOutline kind seq (now (body .entry)) ⌝ }
 {
-    if kind == SIX {
-        let r = stock_quotes::reading::read(body, seq);
+    let n = 13 + body.len();
+    let format = kind / 100;
+    if format == SIX / 100 {
+        if kind != SIX {
+            return Answer::Refused(8, n);
+        }
+        let r = quote_in(body, seq);
         let a = r.answer;
         return a;
     }
-    if kind == TWELVE {
-        let r = stock_prices::read(body, seq);
+    if format == TWELVE / 100 {
+        if kind != TWELVE {
+            return Answer::Refused(8, n);
+        }
+        let r = prices_in(body, seq);
         let a = r.answer;
         return a;
     }
-    if kind == NINETEEN {
-        let r = stock_halts::read(body, seq);
+    if format == NINETEEN / 100 {
+        if kind != NINETEEN {
+            return Answer::Refused(8, n);
+        }
+        let r = halt_in(body, seq);
         let a = r.answer;
         return a;
     }
-    if kind == FIVE {
-        let r = stock_notices::read(body, seq);
+    if format == FIVE / 100 {
+        if kind != FIVE {
+            return Answer::Refused(8, n);
+        }
+        let r = notice_in(body, seq);
         let a = r.answer;
         return a;
     }
-    refused(kind, 13 + body.len())
+    Answer::Refused(7, n)
 }
 
 // The answer alone, with the format, the number and the length of an accepted frame.
@@ -150,7 +145,7 @@ pub fn read_notice(line: &[u8], at: usize) -> NoticeReading
         Found::At(w) => {
             let start = w.start;
             let end = w.end;
-            stock_notices::read(&line[start..end], w.seq)
+            notice_in(&line[start..end], w.seq)
         }
     }
 }
@@ -167,7 +162,7 @@ pub fn read_quote(line: &[u8], at: usize) -> QuoteReading
         Found::At(w) => {
             let start = w.start;
             let end = w.end;
-            stock_quotes::reading::read(&line[start..end], w.seq)
+            quote_in(&line[start..end], w.seq)
         }
     }
 }
@@ -184,7 +179,7 @@ pub fn read_prices(line: &[u8], at: usize) -> PricesReading
         Found::At(w) => {
             let start = w.start;
             let end = w.end;
-            stock_prices::read(&line[start..end], w.seq)
+            prices_in(&line[start..end], w.seq)
         }
     }
 }
@@ -201,7 +196,7 @@ pub fn read_halt(line: &[u8], at: usize) -> HaltReading
         Found::At(w) => {
             let start = w.start;
             let end = w.end;
-            stock_halts::read(&line[start..end], w.seq)
+            halt_in(&line[start..end], w.seq)
         }
     }
 }

@@ -1,7 +1,5 @@
 -- `reading::answer_of` meets its contract: the header's six digits choose the format.
-use Prim.Native.Nat.{ℕ, _<_}
-use mathlib.Core.Path.{refl, sym, ap, _∙_}
-use lib.Dec.{lit<}
+use mathlib.Core.Path.{ap, _∙_}
 use Rattle.stock_notices.specs.Notices.{five, noticeReading}
 use Rattle.stock_notices.specs.declared.NoticeReading.{NoticeReading}
 use Rattle.stock_quotes.specs.Quotes.{six, quoteReading}
@@ -10,79 +8,80 @@ use Rattle.stock_prices.specs.Prices.{twelve, pricesReading}
 use Rattle.stock_prices.specs.declared.PricesReading.{PricesReading}
 use Rattle.stock_halts.specs.Halts.{nineteen, haltReading}
 use Rattle.stock_halts.specs.declared.HaltReading.{HaltReading}
-use Rattle.stock_reading.specs.Reading.{formatOf}
-use Rattle.stock_reading.specs.Steps.{afterOutline}
-use Rattle.stock_reading.proofs.ReadingLaws.{kind-hit, kind-none}
+use Rattle.stock_frame.proofs.FormatsLaws.{no-more, _nor_}
+use Rattle.stock_reading.proofs.HeaderLaws.{five-listed, six-listed, twelve-listed, nineteen-listed, kind-seven, kind-eight, kind-hit}
 use borrow.Author.Needs.{needs}
 use Rattle.stock_reading.proofs.reading.answer_of.Statement.{statement}
 use Rattle.stock_reading.proofs.reading.answer_of.Tie as tie
-use Rattle.stock_notices.proofs.read.Reads as read-reads′
-use Rattle.stock_prices.proofs.read.Reads as read-reads′′
 
-read-requires : tie.Need-read-requires
-read-requires c κs = search needs
+-- format six: another version, or its body
+six-other : tie.Need-returns
+six-other c = let a = c .before .before .before .args in kind-eight (a .kind) (a .seq) (a .body .now) six six-listed (c .before .if1 .taken) (c .if2 .taken)
 
-returns : tie.Need-returns
-unfolding formatOf quoteReading
-returns c =
-    let a = c .before .before .before .args in
-    ap (λ (r : QuoteReading). r .answer) (c .read .ensures)
-    ∙ kind-hit six refl refl (lit< tt) (lit< tt) (a .seq) (a .body .now) ∙ ap (λ (k : ℕ). afterOutline k (a .seq) (a .body .now)) (sym (c .before .if1 .taken))
-
-read-requires-2 : tie.Need-read-requires-2
-read-requires-2 c κs = search needs
-
-returns-2 : tie.Need-returns-2
-unfolding formatOf pricesReading
-returns-2 c =
+six-body : tie.Need-returns-2
+unfolding quoteReading
+six-body c =
     let a = c .before .before .before .before .args in
-    ap (λ (r : PricesReading). r .answer) (c .read2 .ensures)
-    ∙ kind-hit twelve refl refl (lit< tt) (lit< tt) (a .seq) (a .body .now) ∙ ap (λ (k : ℕ). afterOutline k (a .seq) (a .body .now)) (sym (c .before .if2 .taken))
+    ap (λ (r : QuoteReading). r .answer) (c .read .ensures) ∙ kind-hit (a .kind) (a .seq) (a .body .now) six six-listed (c .before .if2 .left)
 
-read-requires-3 : tie.Need-read-requires-3
-read-requires-3 c κs = search needs
+-- format twelve
+twelve-other : tie.Need-returns-3
+twelve-other c = let a = c .before .before .before .before .args in kind-eight (a .kind) (a .seq) (a .body .now) twelve twelve-listed (c .before .if3 .taken) (c .if4 .taken)
 
-returns-3 : tie.Need-returns-3
-unfolding formatOf haltReading
-returns-3 c =
+twelve-body : tie.Need-returns-4
+unfolding pricesReading
+twelve-body c =
     let a = c .before .before .before .before .before .args in
-    ap (λ (r : HaltReading). r .answer) (c .read3 .ensures)
-    ∙ kind-hit nineteen refl refl (lit< tt) (lit< tt) (a .seq) (a .body .now) ∙ ap (λ (k : ℕ). afterOutline k (a .seq) (a .body .now)) (sym (c .before .if3 .taken))
+    ap (λ (r : PricesReading). r .answer) (c .read2 .ensures) ∙ kind-hit (a .kind) (a .seq) (a .body .now) twelve twelve-listed (c .before .if4 .left)
 
-read-requires-4 : tie.Need-read-requires-4
-read-requires-4 c κs = search needs
+-- format nineteen
+nineteen-other : tie.Need-returns-5
+nineteen-other c =
+    let a = c .before .before .before .before .before .args in
+    kind-eight (a .kind) (a .seq) (a .body .now) nineteen nineteen-listed (c .before .if5 .taken) (c .if6 .taken)
 
-returns-4 : tie.Need-returns-4
-unfolding formatOf noticeReading
-returns-4 c =
+nineteen-body : tie.Need-returns-6
+unfolding haltReading
+nineteen-body c =
     let a = c .before .before .before .before .before .before .args in
-    ap (λ (r : NoticeReading). r .answer) (c .read4 .ensures)
-    ∙ kind-hit five refl refl (lit< tt) (lit< tt) (a .seq) (a .body .now) ∙ ap (λ (k : ℕ). afterOutline k (a .seq) (a .body .now)) (sym (c .before .if4 .taken))
+    ap (λ (r : HaltReading). r .answer) (c .read3 .ensures) ∙ kind-hit (a .kind) (a .seq) (a .body .now) nineteen nineteen-listed (c .before .if6 .left)
 
-add-refused : tie.Need-add-refused
-add-refused c = search needs
-
-refused-requires : tie.Need-refused-requires
-refused-requires c κs = search needs
-
-returns-5 : tie.Need-returns-5
-returns-5 c =
+-- format five
+five-other : tie.Need-returns-7
+five-other c =
     let a = c .before .before .before .before .before .before .args in
-    c .refused .ensures
-    ∙ kind-none (a .kind) (a .seq) (a .body .now) (c .before .if4 .left) (c .before .before .before .before .if1 .left) (c .before .before .before .if2 .left) (c .before .before .if3 .left)
+    kind-eight (a .kind) (a .seq) (a .body .now) five five-listed (c .before .if7 .taken) (c .if8 .taken)
+
+five-body : tie.Need-returns-8
+unfolding noticeReading
+five-body c =
+    let a = c .before .before .before .before .before .before .before .args in
+    ap (λ (r : NoticeReading). r .answer) (c .read4 .ensures) ∙ kind-hit (a .kind) (a .seq) (a .body .now) five five-listed (c .before .if8 .left)
+
+-- no format
+no-format : tie.Need-returns-9
+no-format c =
+    let not-19 = c .before in
+    let not-12 = not-19 .before in
+    let not-6 = not-12 .before in
+    let a = not-6 .before .before .args in
+    kind-seven (a .kind) (a .seq) (a .body .now) (c .if7 .left nor not-6 .if1 .left nor not-12 .if3 .left nor not-19 .if5 .left nor no-more)
 
 pub answer-of-spec : {M : Type 1} → statement M
 answer-of-spec =
     tie.close
     (tie.spec
-    read-requires
-    returns
-    read-requires-2
-    returns-2
-    read-requires-3
-    returns-3
-    read-requires-4
-    returns-4
-    add-refused
-    refused-requires
-    returns-5)
+    (λ c. search needs)
+    six-other
+    (λ c κs. search needs)
+    six-body
+    twelve-other
+    (λ c κs. search needs)
+    twelve-body
+    nineteen-other
+    (λ c κs. search needs)
+    nineteen-body
+    five-other
+    (λ c κs. search needs)
+    five-body
+    no-format)

@@ -4,7 +4,8 @@ use lib.ListN.{drop}
 use borrow.Author.Tests.{ne-eqb}
 use Rattle.stock_reading.specs.declared.reading.Found.{Found}
 use Rattle.stock_reading.specs.Steps.{WholeAt, foundSays, isKind}
-use Rattle.stock_reading.proofs.ReadingLaws.{answer-not, whole-answer}
+use Rattle.stock_reading.proofs.ReadingLaws.{answer-not}
+use Rattle.stock_reading.proofs.PlaceLaws.{whole-answer}
 use borrow.Author.Needs.{needs}
 use Rattle.stock_reading.proofs.reading.find_kind.Statement.{statement}
 use Rattle.stock_reading.proofs.reading.find_kind.Tie as tie
@@ -15,29 +16,8 @@ told c =
     let a = c .before .before .before .before .args in
     subst (λ (r : Found). foundSays r (a .line .now) (a .at)) (c .w .given .1) (c .before .before .find .ensures)
 
-find-requires : tie.Need-find-requires
-find-requires c κs = search needs
-
-enum-known-answer : tie.Need-enum-known-answer
-enum-known-answer c = search needs
-
-enum-known-w : tie.Need-enum-known-w
-enum-known-w c = search needs
-
 returns : tie.Need-returns
 returns c = (told (c .before .before .before), c .if1 .taken)
-
-sub-answer-of : tie.Need-sub-answer-of
-sub-answer-of c = told (c .before .before .before) .in-order
-
-part-answer-of-start : tie.Need-part-answer-of-start
-part-answer-of-start c = told (c .before .before .before) .in-order
-
-part-answer-of-end : tie.Need-part-answer-of-end
-part-answer-of-end c = told (c .before .before .before) .in-line
-
-answer-of-requires : tie.Need-answer-of-requires
-answer-of-requires c κs = search needs
 
 returns-2 : tie.Need-returns-2
 returns-2 c =
@@ -58,13 +38,13 @@ pub find-kind-spec : {M : Type 1} → statement M
 find-kind-spec =
     tie.close
     (tie.spec
-    find-requires
-    enum-known-answer
-    enum-known-w
+    (λ c κs. search needs)
+    (λ c. search needs)
+    (λ c. search needs)
     returns
-    sub-answer-of
-    part-answer-of-start
-    part-answer-of-end
-    answer-of-requires
+    (λ c. told (c .before .before .before) .in-order)
+    (λ c. told (c .before .before .before) .in-order)
+    (λ c. told (c .before .before .before) .in-line)
+    (λ c κs. search needs)
     returns-2
     returns-3)

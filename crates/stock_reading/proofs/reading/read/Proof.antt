@@ -3,7 +3,8 @@ use mathlib.Core.Path.{subst, _∙_}
 use lib.ListN.{drop}
 use Rattle.stock_reading.specs.declared.reading.Found.{Found}
 use Rattle.stock_reading.specs.Steps.{WholeAt, foundSays}
-use Rattle.stock_reading.proofs.ReadingLaws.{answer-not, whole-answer}
+use Rattle.stock_reading.proofs.ReadingLaws.{answer-not}
+use Rattle.stock_reading.proofs.PlaceLaws.{whole-answer}
 use borrow.Author.Needs.{needs}
 use Rattle.stock_reading.proofs.reading.read.Statement.{statement}
 use Rattle.stock_reading.proofs.reading.read.Tie as tie
@@ -13,27 +14,6 @@ told : (c : tie.After-w) → WholeAt (c .before .before .before .before .args .l
 told c =
     let a = c .before .before .before .before .args in
     subst (λ (r : Found). foundSays r (a .line .now) (a .at)) (c .w .given .1) (c .before .before .find .ensures)
-
-find-requires : tie.Need-find-requires
-find-requires c κs = search needs
-
-enum-known-answer : tie.Need-enum-known-answer
-enum-known-answer c = search needs
-
-enum-known-w : tie.Need-enum-known-w
-enum-known-w c = search needs
-
-sub-answer-of : tie.Need-sub-answer-of
-sub-answer-of c = told (c .before) .in-order
-
-part-answer-of-start : tie.Need-part-answer-of-start
-part-answer-of-start c = told (c .before) .in-order
-
-part-answer-of-end : tie.Need-part-answer-of-end
-part-answer-of-end c = told (c .before) .in-line
-
-answer-of-requires : tie.Need-answer-of-requires
-answer-of-requires c κs = search needs
 
 returns : tie.Need-returns
 returns c =
@@ -51,12 +31,12 @@ pub read-spec : {M : Type 1} → statement M
 read-spec =
     tie.close
     (tie.spec
-    find-requires
-    enum-known-answer
-    enum-known-w
-    sub-answer-of
-    part-answer-of-start
-    part-answer-of-end
-    answer-of-requires
+    (λ c κs. search needs)
+    (λ c. search needs)
+    (λ c. search needs)
+    (λ c. told (c .before) .in-order)
+    (λ c. told (c .before) .in-order)
+    (λ c. told (c .before) .in-line)
+    (λ c κs. search needs)
     returns
     returns-2)
