@@ -7,8 +7,7 @@ use mathlib.Core.List.{List}
 use lib.Dec.{ltb, eqb}
 use borrow.Author.Tests.{eqb-false, ltb-false, ne-eqb, le-ltb}
 use Rattle.ledger.specs.Ends.{falling, heardAt, runsIn, withNumber, fitted}
-use Rattle.ledger.specs.Calls.{mostNumber, mostRuns, valid, stays, arrivedOf}
-use Rattle.ledger.specs.Calls.{withEnds}
+use Rattle.ledger.specs.Calls.{mostNumber, mostRuns, valid, stays, arrivedOf, withEnds}
 use Rattle.ledger.specs.declared.Ledger.{Ledger}
 use Rattle.ledger.specs.declared.Arrival.{Arrival}
 use Rattle.ledger.specs.declared.Arrived.{Arrived}

@@ -10,9 +10,8 @@ use lib.Seq.{take-at}
 use lib.Dec.{leb, ltb, eqb}
 use borrow.Author.Tests.{leb-true, leb-false, eqb-true, eqb-false, lt-ltb, le-ltb}
 use Rattle.ledger.specs.Ends.{places, falling, endsFrom, heardAt, highestIn, heardIn, missingIn, runsIn, firstOf, lastOf, turned, withNumber, fitted}
-use Rattle.ledger.specs.Calls.{mostNumber, mostRuns, arrivalNumber, figureNumber, runNumber, valid, stays, arrivedOf, lentArrivedOf, figureOf, runOf}
+use Rattle.ledger.specs.Calls.{mostNumber, mostRuns, arrivalNumber, figureNumber, runNumber, valid, stays, arrivedOf, lentArrivedOf, figureOf, runOf, withEnds}
 use Rattle.ledger.specs.History.{Reached, Exactly20, LentExactly20}
-use Rattle.ledger.specs.Calls.{withEnds}
 use Rattle.ledger.specs.declared.Ledger.{Ledger}
 use Rattle.ledger.specs.declared.Arrival.{Arrival}
 use Rattle.ledger.specs.declared.Arrived.{Arrived}

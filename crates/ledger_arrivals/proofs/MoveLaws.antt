@@ -2,19 +2,11 @@
 use Prim.Native.Nat.{ℕ, zero, suc, _+_, _-_, _≤_, _<_}
 use native.Mathlib.Numerals.{add-one}
 use native.Mathlib.Omega.{arith}
-use mathlib.Core.Path.{_≡_, refl, sym, ap, _∙_}
+use mathlib.Core.Path.{_≡_, refl, sym, ap, _∙_, ap₂}
 use mathlib.Core.Bool.{true}
 use mathlib.Core.List.{List, [], _∷_, _++_, append-assoc}
-use lib.ListN.{length, getD, take, drop, set, length-set, drop-of-length-le}
-use lib.Seq.{take-add, take-suc-set, drop-set-lt, take-set-le, take-take, getD-drop, getD-take, getD-set-same}
-use Rattle.ledger.specs.Ends.{falling}
-use Prim.Native.Nat.{ℕ, zero, suc, _+_, _-_, _≤_}
-use native.Mathlib.Omega.{arith}
-use mathlib.Core.Path.{_≡_, refl, sym, ap, ap₂, _∙_}
-use mathlib.Core.Bool.{true}
-use mathlib.Core.List.{List, [], _∷_}
-use lib.ListN.{length, getD, take, drop, replicate}
-use lib.Seq.{drop-drop}
+use lib.ListN.{length, getD, take, drop, set, length-set, drop-of-length-le, replicate}
+use lib.Seq.{take-add, take-suc-set, drop-set-lt, take-set-le, take-take, getD-drop, getD-take, getD-set-same, drop-drop}
 use Rattle.ledger.specs.Ends.{falling}
 use Rattle.ledger.proofs.EndLaws.{falls-head, falls-tail}
 use Rattle.ledger_ends.proofs.LoopLaws.{at-drop}
