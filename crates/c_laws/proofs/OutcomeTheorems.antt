@@ -1,24 +1,24 @@
 -- An outcome tells what it was made from: nothing of a reading's answer is lost in its one number.
 use Prim.Native.Nat.{ℕ, _≤_, _<_}
 use mathlib.Core.Path.{_≡_, refl, sym, ap, _∙_}
-use mathlib.Core.Bool.{Bool, true, false, cond, _&&_, _||_}
-use mathlib.Core.List.{List, [], _∷_, _++_}
+use mathlib.Core.Bool.{Bool, true, false, cond}
+use mathlib.Core.List.{List, _∷_}
 use native.Mathlib.Omega.{arith}
 use lib.ListN.{length, getD, drop}
 use lib.Dec.{eqb, leb}
-use borrow.Author.Tests.{eqb-true, eqb-false, ne-eqb, leb-true, leb-false}
+use borrow.Author.Tests.{eqb-true, ne-eqb, leb-true, leb-false}
 use Rattle.digits.specs.Packed.{goodField}
-use Rattle.digits.proofs.Bools.{and-left, and-right, no-false}
+use Rattle.digits.proofs.Bools.{and-right}
 use Rattle.layout.specs.Rows.{Row, must, firstFail}
 use Rattle.answers.specs.Answers.{named, answerNumber, answerLength}
-use Rattle.stock_frame.specs.Outline.{lengthBytes, lengthOf, own, body, business, format, version, number, lengthRight, outlineRows}
-use Rattle.stock_frame.specs.Format.{bodyRows}
+use Rattle.stock_frame.specs.Outline.{lengthBytes, lengthOf, own, format, number, lengthRight}
 use Rattle.answers.specs.declared.Frame.{Frame}
 use Rattle.answers.specs.declared.Answer.{Answer}
 use Rattle.answers.specs.declared.Answer.the-variants.{Accepted, NoFrame, Refused}
-use Rattle.layout.proofs.RowLaws.{row-holds, firstFail-append}
-use Rattle.stock_reading.specs.Reading.{formatOf, isFormat, kindRows, rows, answerOf}
-use Rattle.stock_reading.proofs.Trips.{number-named, answer-number}
+use Rattle.stock_reading.specs.Reading.{rows, answerOf}
+use Rattle.stock_frame.proofs.FigureLaws.{number-named, fails-at-most}
+use Rattle.stock_reading.proofs.HeaderLaws.{format-small}
+use Rattle.stock_reading.proofs.Trips.{answer-number, answer-says}
 use Rattle.c_outcomes.specs.Lent.{isOf}
 use Rattle.c_outcomes.specs.Outcomes.{outcome, answerPart, formatPart, lengthPart, seqPart, readOutcome, pastOutcome}
 
@@ -28,16 +28,6 @@ pub outcome-parts : (a f l s : ℕ) → a < 256 → f < 256 → l < 65536
 outcome-parts a f l s ha hf hl = (omega arith, omega arith, omega arith, omega arith)
 
 -- ---- the rows of a reading
--- every row's number is at most k
-abbrev atMost : ℕ → List Row → Bool
-atMost k [] = true
-atMost k (must n t ∷ rs) = leb n k && atMost k rs
-
-fails-at-most : (k : ℕ) (rs : List Row) → atMost k rs ≡ true → firstFail rs ≤ k
-fails-at-most k [] h = omega arith
-fails-at-most k (must n true ∷ rs) h = fails-at-most k rs (and-right (leb n k) _ h)
-fails-at-most k (must n false ∷ rs) h = leb-true n k (and-left _ _ h)
-
 -- none of 1 to 5 is answered only behind the four rows on the length
 right-before : (n : ℕ) (a b c d : Bool) (rs : List Row) → firstFail (must 2 a ∷ must 1 b ∷ must 2 c ∷ must 3 d ∷ rs) ≡ n → (1 ≤ n → n ≤ 5 → ⊥) → d ≡ true
 right-before n true true true true rs e h = refl
@@ -45,17 +35,6 @@ right-before n true true true false rs e h = absurd (h (omega arith) (omega arit
 right-before n true true false d rs e h = absurd (h (omega arith) (omega arith))
 right-before n true false c d rs e h = absurd (h (omega arith) (omega arith))
 right-before n false b c d rs e h = absurd (h (omega arith) (omega arith))
-
--- one of the four formats has a small number
-format-small : (n : ℕ) → isFormat n ≡ true → n < 256
-format-small n h = go (eqb n 5) (eqb n 6) (eqb n 12) (eqb n 19) refl refl refl refl h
-  where
-    go : (a b c d : Bool) → eqb n 5 ≡ a → eqb n 6 ≡ b → eqb n 12 ≡ c → eqb n 19 ≡ d → (a || (b || (c || d))) ≡ true → n < 256
-    go true b c d p q r s h = omega (arith, eqb-true n 5 p)
-    go false true c d p q r s h = omega (arith, eqb-true n 6 q)
-    go false false true d p q r s h = omega (arith, eqb-true n 12 r)
-    go false false false true p q r s h = omega (arith, eqb-true n 19 s)
-    go false false false false p q r s h = absurd (no-false h)
 
 -- ---- what an outcome tells
 -- the frame that its figures tell, and the answer
@@ -138,19 +117,9 @@ module _ (t : List ℕ) where
   unfolding rows
   rows-small = fails-at-most 13 (rows t) refl
 
-  abbrev after : List Row
-  after = kindRows (business (own t)) (format (own t)) (version (own t)) ++ bodyRows (formatOf (format (own t))) (body (own t))
-
-  -- where none fails the format is one of the four
+  -- where none fails the format is one of the list
   format-low : firstFail (rows t) ≡ 0 → format (own t) < 256
-  unfolding rows
-  format-low z =
-      let k = go (firstFail (outlineRows t)) (firstFail after) (eqb (firstFail (outlineRows t)) 0) refl (sym (firstFail-append (outlineRows t) after refl) ∙ z) in
-      format-small (format (own t)) (and-right (eqb (business (own t)) 1) _ (row-holds 6 (eqb (business (own t)) 1 && isFormat (format (own t))) (drop 1 after) k))
-    where
-      go : (n m : ℕ) (x : Bool) → eqb n 0 ≡ x → cond x m n ≡ 0 → m ≡ 0
-      go n m true e q = q
-      go n m false e q = absurd (eqb-false n 0 e q)
+  format-low z = omega (arith, format-small (format (own t)) (answer-says t .format-is (answer-number t ∙ z)))
 
   -- where none of 1 to 5 is answered the length is right
   length-told : (1 ≤ firstFail (rows t) → firstFail (rows t) ≤ 5 → ⊥) → lengthOf t ≤ 1024

@@ -22,8 +22,7 @@ use Rattle.stock_frame.specs.Checks.{allHold}
 use Rattle.stock_frame.specs.Reads.{Outlined, Reads}
 use Rattle.stock_frame.specs.Figures.{outlineNumber, outlineValues, beside}
 use Rattle.stock_frame.proofs.CheckLaws.{none-fails, all-hold}
-pub use Rattle.stock_frame.proofs.FigureLaws.{number-named}
-use Rattle.stock_frame.proofs.FigureLaws.{values-named, fails-at-most}
+use Rattle.stock_frame.proofs.FigureLaws.{number-named, values-named, fails-at-most}
 use Rattle.stock_frame.proofs.FormatsLaws.{Listed}
 use Rattle.stock_frame.proofs.OutlineLaws.{passes-outlined, length-own}
 use Rattle.stock_frame.proofs.FormatLaws.{bodied-passes, passes-bodied}
