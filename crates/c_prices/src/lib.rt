@@ -65,5 +65,5 @@ pub extern "C" fn trivsome_write_prices_numbers(
 {
     let slots = slots_of(codes, amounts, times);
     let prices = Prices { seq, count, slots };
-    of_written(stock_prices::write(prices, buf))
+    of_written(stock_prices_write::write(prices, buf))
 }

@@ -1,34 +1,42 @@
--- The contracts of reading and writing prices leave no choice: any two results that they allow are equal.
+-- The public contracts leave no choice: any two results that they allow are equal.
 use mathlib.Core.Path.{_≡_, sym, _∙_}
 use contract.Lifetimes
 use borrow.Fn.World
 use borrow.Fn.Kinds as kinds
 use denote.Triple.Clauses
-use denote.Ref.{now}
-use Rattle.stock_prices.proofs.read
-use Rattle.stock_prices.proofs.read.Kinds as rown
-use Rattle.stock_prices.proofs.read.Reads as rreads
-use Rattle.stock_prices.proofs.write
-use Rattle.stock_prices.proofs.write.Kinds as wown
-use Rattle.stock_prices.proofs.write.Reads as wreads
+use Rattle.stock_prices.proofs.no_slot as slot
+use Rattle.stock_prices.proofs.no_slot.Kinds as sown
+use Rattle.stock_prices.proofs.no_slot.Reads as sreads
 use Rattle.stock_prices.proofs.empty as none
 use Rattle.stock_prices.proofs.empty.Kinds as nown
 use Rattle.stock_prices.proofs.empty.Reads as nreads
+use Rattle.stock_prices.proofs.rules.time_right as time
+use Rattle.stock_prices.proofs.rules.time_right.Kinds as town
+use Rattle.stock_prices.proofs.rules.time_right.Reads as treads
+use Rattle.stock_prices.proofs.rules.slot_right as fields
+use Rattle.stock_prices.proofs.rules.slot_right.Kinds as fown
+use Rattle.stock_prices.proofs.rules.slot_right.Reads as freads
 
--- what `read` answers, the message with it
-pub determined-read : (κs : Lifetimes.Lfts 1) (a : World.ArgsD read.signature κs) (r₁ r₂ : World.ResD read.signature κs)
-    (s₁ s₂ : Clauses.AtExit (kinds.endedOf 1 rown.ps rown.r) κs) → rreads.Post κs a r₁ s₁ → rreads.Post κs a r₂ s₂
+-- what `no_slot` gives
+pub determined-no-slot : (κs : Lifetimes.Lfts 0) (a : World.ArgsD slot.signature κs) (r₁ r₂ : World.ResD slot.signature κs)
+    (s₁ s₂ : Clauses.AtExit (kinds.endedOf 0 sown.ps sown.r) κs) → sreads.Post κs a r₁ s₁ → sreads.Post κs a r₂ s₂
     → r₁ ≡ r₂
-determined-read κs a r₁ r₂ s₁ s₂ p q = p ∙ sym q
-
--- what `write` answers, and the bytes afterwards
-pub determined-write : (κs : Lifetimes.Lfts 1) (a : World.ArgsD write.signature κs) (r₁ r₂ : World.ResD write.signature κs)
-    (s₁ s₂ : Clauses.AtExit (kinds.endedOf 1 wown.ps wown.r) κs) → wreads.Post κs a r₁ s₁ → wreads.Post κs a r₂ s₂
-    → (r₁ ≡ r₂) × (now (s₁ .1 .0) ≡ now (s₂ .1 .0))
-determined-write κs a r₁ r₂ s₁ s₂ p q = (p .0 ∙ sym (q .0), p .1 ∙ sym (q .1))
+determined-no-slot κs a r₁ r₂ s₁ s₂ p q = p ∙ sym q
 
 -- what `empty` gives
 pub determined-empty : (κs : Lifetimes.Lfts 0) (a : World.ArgsD none.signature κs) (r₁ r₂ : World.ResD none.signature κs)
     (s₁ s₂ : Clauses.AtExit (kinds.endedOf 0 nown.ps nown.r) κs) → nreads.Post κs a r₁ s₁ → nreads.Post κs a r₂ s₂
     → r₁ ≡ r₂
 determined-empty κs a r₁ r₂ s₁ s₂ p q = p ∙ sym q
+
+-- what `time_right` answers
+pub determined-time-right : (κs : Lifetimes.Lfts 0) (a : World.ArgsD time.signature κs) (r₁ r₂ : World.ResD time.signature κs)
+    (s₁ s₂ : Clauses.AtExit (kinds.endedOf 0 town.ps town.r) κs) → treads.Post κs a r₁ s₁ → treads.Post κs a r₂ s₂
+    → r₁ ≡ r₂
+determined-time-right κs a r₁ r₂ s₁ s₂ p q = p ∙ sym q
+
+-- what `slot_right` answers
+pub determined-slot-right : (κs : Lifetimes.Lfts 0) (a : World.ArgsD fields.signature κs) (r₁ r₂ : World.ResD fields.signature κs)
+    (s₁ s₂ : Clauses.AtExit (kinds.endedOf 0 fown.ps fown.r) κs) → freads.Post κs a r₁ s₁ → freads.Post κs a r₂ s₂
+    → r₁ ≡ r₂
+determined-slot-right κs a r₁ r₂ s₁ s₂ p q = p ∙ sym q

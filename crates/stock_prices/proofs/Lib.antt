@@ -3,8 +3,4 @@ pub mod AndLaws
 pub mod PriceLaws
 pub mod Shapes
 pub mod RuleLaws
-pub mod SlotReads
-pub mod SlotsRead
-pub mod ReadLaws
-pub mod WriteLaws
 pub mod Determined

@@ -8,14 +8,14 @@ use lib.ListN.{length, getD, take, drop, length-append, length-drop, take-append
 use lib.Seq.{take-at, drop-at, length-take-le}
 use lib.Dec.{lit<, lit≤}
 use Rattle.amounts.specs.Amounts.{asPrice, asQuantity}
-use Rattle.layout.specs.Cells.{size, decode}
+use Rattle.layout.specs.Cells.{Cell, digits, size, decode}
 use Rattle.stock_frame.specs.Outline.{own}
 use Rattle.stock_frame.specs.Codec.{legal, frameOf}
 use Rattle.layout.proofs.CellLaws.{length-decode, size-append}
 use Rattle.stock_frame.proofs.CodecLaws.{Lawful, Reads, read-written, written-read}
 use Rattle.stock_prices.specs.declared.Slot.{Slot}
 use Rattle.stock_prices.specs.declared.Prices.{Prices}
-use Rattle.stock_prices.specs.Prices.{slotCells, slotsCells, slotOf, slotsOf, slotValues, slotsValues, codesLong, twelve, twelveCells, twelveCodec, ShapedPrices}
+use Rattle.stock_prices.specs.Prices.{slotCells, slotsCells, slotOf, slotsOf, slotValues, slotsValues, codesLong, twelveCells, twelveCodec, ShapedPrices}
 
 -- ---- a list of n by its places
 abbrev spread : ℕ → List ℕ → List ℕ
@@ -29,6 +29,9 @@ spread-all (suc n) [] h = absurd (omega arith)
 spread-all (suc n) (a ∷ l) h = ap (λ (r : List ℕ). a ∷ r) (spread-all n l (omega arith))
 
 -- ---- one slot: a code of six and six numbers
+abbrev pub amountCells : List Cell
+amountCells = digits 9 ∷ digits 9 ∷ digits 9 ∷ digits 9 ∷ digits 8 ∷ digits 12 ∷ []
+
 pub length-slotValues : (s : Slot) → length (s .code) ≡ 6 → length (slotValues s) ≡ 12
 length-slotValues s l = length-append (s .code) _ ∙ ap (λ (n : ℕ). n + 6) l
 

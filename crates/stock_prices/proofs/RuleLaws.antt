@@ -1,19 +1,18 @@
--- The rules over the slots, one slot at a time.
-use Prim.Native.Nat.{ℕ, zero, suc, _+_, _-_, _*_, _/_, _%_, _≤_, _<_}
+-- The rules on one slot.
+use Prim.Native.Nat.{ℕ, _+_, _-_, _*_, _/_, _%_, _≤_, _<_}
 use mathlib.Core.Path.{_≡_, refl, sym, ap, ap₂, _∙_, subst}
-use mathlib.Core.Bool.{Bool, true, false, _&&_, _||_}
+use mathlib.Core.Bool.{Bool, true, false, _&&_, _||_, and-false}
 use mathlib.Core.List.{List, [], _∷_}
 use native.Mathlib.Omega.{arith}
-use native.Mathlib.Numerals.{add-one}
 use lib.ListN.{length, getD, take, drop}
-use lib.Seq.{take-at, drop-at, drop-cons, getD-append-add}
+use lib.Seq.{take-at, drop-at, getD-append-add}
 use lib.Dec.{eqb, leb, ltb}
-use borrow.Author.Tests.{le-leb, lt-leb, lt-ltb, le-ltb, eqb-true, eqb-false, leb-true, ltb-true, ltb-false}
+use borrow.Author.Tests.{le-leb, lt-leb, lt-ltb, le-ltb, eq-eqb, ne-eqb, eqb-true, eqb-false, leb-true, ltb-true, ltb-false}
+use Rattle.digits.proofs.Bools.{no-false, and-both}
 use Rattle.codes_times.specs.Times.{timeOfDay, nines, every, codeRight}
 use Rattle.codes_times.proofs.RuleLaws.{time-width, hours-over, minutes-over, seconds-say}
 use Rattle.stock_prices.specs.declared.Slot.{Slot}
-use Rattle.stock_prices.specs.Prices.{slotCode, slotTime, slotTimed, slotRuled, slotsPass, slotValues, slotsValues, codesLong}
-use Rattle.stock_prices.proofs.PriceLaws.{length-slotValues}
+use Rattle.stock_prices.specs.Prices.{slotCode, slotTime, timeRight, partsRight, slotTimed, slotRuled, slotValues}
 
 -- ---- a code
 -- a byte between two is in the test of both bounds
@@ -35,7 +34,7 @@ pub every-one : (a : ℕ) (bs : List ℕ) → every (eqb a) bs ≡ every (betwee
 every-one a [] = refl
 every-one a (b ∷ bs) = ap₂ _&&_ (between-one a b) (every-one a bs)
 
--- ---- a time of day, by its hours and minutes and by what follows them
+-- ---- a time of day, by its hours and minutes and by the eight digits behind them
 module _ (h r : ℕ) (l : r < 100000000) where
   abbrev time : ℕ
   time = h * 100000000 + r
@@ -58,6 +57,56 @@ module _ (h r : ℕ) (l : r < 100000000) where
         go true e = sym (lt-ltb ((h * 100 + r / 1000000) % 100) 60 (omega (arith, ltb-true r 60000000 e)))
         go false e = sym (le-ltb ((h * 100 + r / 1000000) % 100) 60 (omega (arith, ltb-false r 60000000 e)))
 
+-- the same of any number behind the hours and minutes: more than eight digits are no time
+module _ (h r : ℕ) where
+  abbrev whole : ℕ
+  whole = h * 100000000 + r
+
+  abbrev pub dayRight : Bool
+  dayRight = ltb r 100000000 && timeOfDay 6 whole
+
+  pub day-is : (t : Bool) → (r < 100000000 → t ≡ timeOfDay 6 whole) → (100000000 ≤ r → t ≡ false) → t ≡ dayRight
+  day-is t f g = go (ltb r 100000000) refl
+    where
+      go : (u : Bool) → ltb r 100000000 ≡ u → t ≡ (u && timeOfDay 6 whole)
+      go true e = f (ltb-true r 100000000 e)
+      go false e = g (ltb-false r 100000000 e)
+
+  abbrev pub ninesRight : Bool
+  ninesRight = ltb r 100000000 && eqb whole (nines 6)
+
+  pub nines-other : (r < 100000000 → whole ≡ nines 6 → ⊥) → false ≡ ninesRight
+  nines-other f = go (ltb r 100000000) refl
+    where
+      go : (u : Bool) → ltb r 100000000 ≡ u → false ≡ (u && eqb whole (nines 6))
+      go true e = sym (ne-eqb whole (nines 6) (f (ltb-true r 100000000 e)))
+      go false e = refl
+
+  -- past the hours and minutes of nines only the other digits tell
+  pub nines-rest : h ≡ 9999 → eqb r 99999999 ≡ ninesRight
+  nines-rest e = go (eqb r 99999999) refl
+    where
+      go : (u : Bool) → eqb r 99999999 ≡ u → u ≡ ninesRight
+      go true q = sym (and-both (lt-ltb r 100000000 (omega (arith, eqb-true r 99999999 q))) (eq-eqb whole (nines 6) (omega (arith, e, eqb-true r 99999999 q))))
+      go false q = nines-other (λ l k. eqb-false r 99999999 q (omega (arith, e, k)))
+
+  -- ---- and of a slot's time: one of day, or nines where it is counted
+  pub right-day : (counted : Bool) → dayRight ≡ true → true ≡ partsRight counted h r
+  right-day counted e = go (ltb r 100000000) (timeOfDay 6 whole) e
+    where
+      go : (a d : Bool) → (a && d) ≡ true → true ≡ (a && (d || (counted && eqb whole (nines 6))))
+      go true true e = refl
+      go true false e = absurd (no-false e)
+      go false d e = absurd (no-false e)
+
+  pub right-other : (counted : Bool) → dayRight ≡ false → (counted && ninesRight) ≡ partsRight counted h r
+  right-other counted e = go (ltb r 100000000) (timeOfDay 6 whole) e
+    where
+      go : (a d : Bool) → (a && d) ≡ false → (counted && (a && eqb whole (nines 6))) ≡ (a && (d || (counted && eqb whole (nines 6))))
+      go true false e = refl
+      go true true e = absurd (no-false (sym e))
+      go false d e = and-false counted
+
 -- ---- one slot
 module _ (s : Slot) (l : length (s .code) ≡ 6) where
   abbrev amounts : List ℕ
@@ -72,69 +121,30 @@ module _ (s : Slot) (l : length (s .code) ≡ 6) where
   amounts-are : take 6 (drop 6 (slotValues s)) ≡ amounts
   amounts-are = ap (take 6) (drop-at (s .code) amounts 6 l)
 
-  timed-is : (n : ℕ) → slotTimed n (slotValues s) ≡ (timeOfDay 6 (s .time) || (leb 1 n && eqb (s .time) (nines 6)))
-  timed-is zero = ap (timeOfDay 6) time-is ∙ sym (or-none (timeOfDay 6 (s .time)))
-    where
-      or-none : (t : Bool) → (t || (leb 1 0 && eqb (s .time) (nines 6))) ≡ t
-      or-none true = refl
-      or-none false = ap (λ (u : Bool). u && eqb (s .time) (nines 6)) (lt-leb 1 0 (omega arith))
-  timed-is (suc n) =
-      ap (λ (x : ℕ). timeOfDay 6 x || eqb x (nines 6)) time-is
-      ∙ sym (ap (λ (u : Bool). timeOfDay 6 (s .time) || (u && eqb (s .time) (nines 6))) (le-leb 1 (suc n) (omega arith)))
+  pub timed-is : (counted : Bool) → slotTimed counted (slotValues s) ≡ timeRight counted (s .time)
+  timed-is counted = ap (timeRight counted) time-is
 
-  pub timed-by : (n : ℕ) {d : Bool} → d ≡ timeOfDay 6 (s .time) → slotTimed n (slotValues s) ≡ (d || (leb 1 n && eqb (s .time) (nines 6)))
-  timed-by n e = timed-is n ∙ ap (λ (t : Bool). t || (leb 1 n && eqb (s .time) (nines 6))) (sym e)
-
-  pub counted-is : (n : ℕ) → 0 < n → slotRuled n (slotValues s) ≡ every (between 32 126) (s .code)
-  counted-is zero h = absurd (omega arith)
-  counted-is (suc n) h = ap codeRight code-is
-
-  unused-is : slotRuled 0 (slotValues s) ≡ (every (between 32 32) (s .code) && every (eqb 0) amounts)
+  unused-is : slotRuled false (slotValues s) ≡ (every (between 32 32) (s .code) && every (eqb 0) amounts)
   unused-is = ap₂ (λ (c a : List ℕ). every (eqb 32) c && every (eqb 0) a) code-is amounts-are ∙ ap (λ (t : Bool). t && every (eqb 0) amounts) (every-one 32 (s .code))
 
-  module _ (n : ℕ) (z : n ≤ 0) where
-    at-none : slotRuled n (slotValues s) ≡ (every (between 32 32) (s .code) && every (eqb 0) amounts)
-    at-none = let e : n ≡ 0 = omega arith in ap (λ (k : ℕ). slotRuled k (slotValues s)) e ∙ unused-is
+  module _ (counted : Bool) where
+    pub counted-is : counted ≡ true → slotRuled counted (slotValues s) ≡ every (between 32 126) (s .code)
+    counted-is e = ap (λ (t : Bool). slotRuled t (slotValues s)) e ∙ ap codeRight code-is
 
-    pub unused-fails : every (between 32 32) (s .code) ≡ false → slotRuled n (slotValues s) ≡ false
-    unused-fails e = at-none ∙ ap (λ (t : Bool). t && every (eqb 0) amounts) e
+    module _ (z : counted ≡ false) where
+      at-none : slotRuled counted (slotValues s) ≡ (every (between 32 32) (s .code) && every (eqb 0) amounts)
+      at-none = ap (λ (t : Bool). slotRuled t (slotValues s)) z ∙ unused-is
 
-    pub unused-zero : every (between 32 32) (s .code) ≡ true → slotRuled n (slotValues s) ≡ every (eqb 0) amounts
-    unused-zero e = at-none ∙ ap (λ (t : Bool). t && every (eqb 0) amounts) e
+      pub unused-fails : every (between 32 32) (s .code) ≡ false → slotRuled counted (slotValues s) ≡ false
+      unused-fails e = at-none ∙ ap (λ (t : Bool). t && every (eqb 0) amounts) e
 
--- ---- all slots: a test that goes on from slot i
-pub codes-at : (ss : List Slot) (i : ℕ) (d : Slot) → codesLong ss → i < length ss → length (getD ss i d .code) ≡ 6
-codes-at [] i d c h = absurd (omega arith)
-codes-at (s ∷ ss) zero d c h = c .0
-codes-at (s ∷ ss) (suc i) d c h = codes-at ss i d (c .1) (omega arith)
+      pub unused-zero : every (between 32 32) (s .code) ≡ true → slotRuled counted (slotValues s) ≡ every (eqb 0) amounts
+      unused-zero e = at-none ∙ ap (λ (t : Bool). t && every (eqb 0) amounts) e
 
-module _ (p : ℕ → List ℕ → Bool) (ss : List Slot) (l : length ss ≡ 10) (c : codesLong ss) where
-  pass-first : (k n : ℕ) (s : Slot) (more : List Slot) → length (s .code) ≡ 6
-      → slotsPass p (suc k) n (slotsValues (s ∷ more)) ≡ (p n (slotValues s) && slotsPass p k (n - 1) (slotsValues more))
-  pass-first k n s more h =
-      ap₂ (λ (a b : List ℕ). p n a && slotsPass p k (n - 1) b)
-      (take-at (slotValues s) (slotsValues more) 12 (length-slotValues s h))
-      (drop-at (slotValues s) (slotsValues more) 12 (length-slotValues s h))
-
-  module _ (d : Slot) (n left i : ℕ) (h : i < 10)
-      (inv : slotsPass p (10 - i) left (slotsValues (drop i ss)) ≡ slotsPass p 10 n (slotsValues ss)) where
-    pass-turn : slotsPass p (10 - i) left (slotsValues (drop i ss))
-        ≡ (p left (slotValues (getD ss i d)) && slotsPass p (10 - (i + 1)) (left - 1) (slotsValues (drop (i + 1) ss)))
-    pass-turn =
-        let k : 10 - i ≡ suc (10 - (i + 1)) = omega arith in
-        let e : drop i ss ≡ getD ss i d ∷ drop (i + 1) ss = drop-cons ss i d (omega arith) ∙ ap (λ (j : ℕ). getD ss i d ∷ drop j ss) (sym (add-one i)) in
-        ap₂ (λ (j : ℕ) (r : List Slot). slotsPass p j left (slotsValues r)) k e
-        ∙ pass-first (10 - (i + 1)) left (getD ss i d) (drop (i + 1) ss) (codes-at ss i d c (omega arith))
-
-    pub pass-fails : p left (slotValues (getD ss i d)) ≡ false → slotsPass p 10 n (slotsValues ss) ≡ false
-    pass-fails e = sym inv ∙ pass-turn ∙ ap (λ (t : Bool). t && slotsPass p (10 - (i + 1)) (left - 1) (slotsValues (drop (i + 1) ss))) e
-
-    pub pass-again : p left (slotValues (getD ss i d)) ≡ true
-        → slotsPass p (10 - (i + 1)) (left - 1) (slotsValues (drop (i + 1) ss)) ≡ slotsPass p 10 n (slotsValues ss)
-    pass-again e = sym (sym inv ∙ pass-turn ∙ ap (λ (t : Bool). t && slotsPass p (10 - (i + 1)) (left - 1) (slotsValues (drop (i + 1) ss))) e)
-
-  pub pass-done : (n left i : ℕ) → i ≤ 10 → 10 ≤ i → slotsPass p (10 - i) left (slotsValues (drop i ss)) ≡ slotsPass p 10 n (slotsValues ss)
-      → slotsPass p 10 n (slotsValues ss) ≡ true
-  pass-done n left i h g inv =
-      let k : 10 - i ≡ 0 = omega arith in
-      sym inv ∙ ap (λ (j : ℕ). slotsPass p j left (slotsValues (drop i ss))) k
+-- slot i is counted where it is among the first n
+pub counted-at : (i n : ℕ) → leb 1 (n - i) ≡ ltb i n
+counted-at i n = go (ltb i n) refl
+  where
+    go : (t : Bool) → ltb i n ≡ t → leb 1 (n - i) ≡ t
+    go true e = le-leb 1 (n - i) (omega (arith, ltb-true i n e))
+    go false e = lt-leb 1 (n - i) (omega (arith, ltb-false i n e))

@@ -1,17 +1,16 @@
 -- Format twelve, version 03, 374 bytes: a count 1 to 10, then ten slots of 36 bytes.
-use Prim.Native.Nat.{ℕ, zero, suc, _+_, _-_}
+use Prim.Native.Nat.{ℕ, zero, suc, _+_, _-_, _*_}
 use mathlib.Core.Path.{_≡_}
-use mathlib.Core.Bool.{Bool, true, cond, _&&_, _||_}
+use mathlib.Core.Bool.{Bool, true, false, cond, _&&_, _||_}
 use mathlib.Core.List.{List, [], _∷_, _++_}
 use lib.ListN.{length, getD, take, drop, replicate}
-use lib.Dec.{eqb, leb}
+use lib.Dec.{eqb, leb, ltb}
 use Rattle.amounts.specs.Amounts.{asPrice, asQuantity}
 use Rattle.layout.specs.Cells.{Cell, raw, digits}
 use Rattle.layout.specs.Rows.{firstFail}
 use Rattle.stock_frame.specs.Format.{Format, valuesOf, bodyRows, bodyAnswer}
 use Rattle.codes_times.specs.Times.{timeOfDay, nines, every, codeRight}
 use Rattle.stock_frame.specs.Codec.{Codec}
-use Rattle.answers.specs.declared.Answer.{Answer}
 use Rattle.stock_prices.specs.declared.Slot.{Slot}
 use Rattle.stock_prices.specs.declared.Prices.{Prices}
 use Rattle.stock_prices.specs.declared.PricesReading.{PricesReading}
@@ -41,20 +40,26 @@ slotCode vs = take 6 vs
 abbrev pub slotTime : List ℕ → ℕ
 slotTime vs = getD vs 11 0
 
--- a time of day; in a counted slot (n are still to come) also all nines, the closing price
-abbrev pub slotTimed : ℕ → List ℕ → Bool
-slotTimed zero vs = timeOfDay 6 (slotTime vs)
-slotTimed (suc n) vs = timeOfDay 6 (slotTime vs) || eqb (slotTime vs) (nines 6)
+-- a time of day; in a counted slot also all nines, the closing price
+abbrev pub timeRight : Bool → ℕ → Bool
+timeRight counted t = timeOfDay 6 t || (counted && eqb t (nines 6))
+
+-- the same of a time's hours and minutes and the eight digits behind them
+abbrev pub partsRight : Bool → ℕ → ℕ → Bool
+partsRight counted hhmm rest = ltb rest 100000000 && timeRight counted (hhmm * 100000000 + rest)
+
+abbrev pub slotTimed : Bool → List ℕ → Bool
+slotTimed counted vs = timeRight counted (slotTime vs)
 
 -- in a counted slot the code's bytes are right; after the count there are six spaces and zeros
-abbrev pub slotRuled : ℕ → List ℕ → Bool
-slotRuled zero vs = every (eqb 32) (slotCode vs) && every (eqb 0) (take 6 (drop 6 vs))
-slotRuled (suc n) vs = codeRight (slotCode vs)
+abbrev pub slotRuled : Bool → List ℕ → Bool
+slotRuled true vs = codeRight (slotCode vs)
+slotRuled false vs = every (eqb 32) (slotCode vs) && every (eqb 0) (take 6 (drop 6 vs))
 
 -- k slots, of which the first n are counted, pass a test of the slot
-abbrev pub slotsPass : (ℕ → List ℕ → Bool) → ℕ → ℕ → List ℕ → Bool
+abbrev pub slotsPass : (Bool → List ℕ → Bool) → ℕ → ℕ → List ℕ → Bool
 slotsPass p zero n vs = true
-slotsPass p (suc k) n vs = p n (take slotSize vs) && slotsPass p k (n - 1) (drop slotSize vs)
+slotsPass p (suc k) n vs = p (leb 1 n) (take slotSize vs) && slotsPass p k (n - 1) (drop slotSize vs)
 
 -- row 12, for all ten slots
 abbrev pub twelveTimed : List ℕ → Bool
@@ -140,17 +145,7 @@ noSlot = record {
 abbrev pub noPrices : Prices
 noPrices = record { seq = 0; count = 0; slots = replicate slotCount noSlot }
 
--- a refusal by its number
-abbrev pub refusal : ℕ → ℕ → PricesReading
-refusal n length = record { answer = Answer.Refused n length; prices = noPrices }
-
--- an accepted body: the frame's own length is 374
-abbrev pub acceptance : ℕ → ℕ → List Slot → PricesReading
-acceptance seq count slots = record {
-  answer = Answer.Accepted (record { format = 12; seq = seq; length = 374 });
-  prices = record { seq = seq; count = count; slots = slots };
-}
-
+-- what reading a body finds
 unfoldable pub pricesReading : ℕ → List ℕ → PricesReading
 pricesReading seq b = record {
   answer = bodyAnswer twelve seq b;

@@ -1,24 +1,17 @@
 // Format twelve: opening and closing prices.
 ghost use mathlib.Core.Path.{_≡_};
-ghost use Rattle.stock_frame.specs.Codec.{legal, frameOf};
-ghost use Rattle.stock_frame.specs.Writing.{writeAnswer, writtenOver};
-ghost use Rattle.stock_prices.specs.Prices.{refusal, acceptance, pricesReading, twelveCodec, noPrices};
+ghost use Rattle.stock_prices.specs.Prices.{noSlot, noPrices};
 
-mod rules;
-mod slots;
-mod writing;
+pub mod rules;
 
 use amounts::Price;
 use amounts::Quantity;
 use answers::Answer;
-use answers::Frame;
-use answers::Written;
-use stock_frame::closing::close;
 
-// The bytes of a body, and of a frame.
-const BODY: usize = 361;
+// The bytes of a frame, and of a slot.
+pub const FRAME: usize = 374;
 
-const FRAME: usize = 374;
+pub const SLOT: usize = 36;
 
 // A stock's prices and quantity so far; the time is HHMMSS and six digits of fraction, all nines after the close.
 pub struct Slot {
@@ -44,94 +37,29 @@ pub struct PricesReading {
     pub prices: Prices,
 }
 
+// The empty slot.
+pub fn no_slot() -> Slot
+    ensures { λ r. ⌜ r ≡ noSlot ⌝ }
+{
+    Slot {
+        code: [0u8; 6],
+        opening: Price(0),
+        highest: Price(0),
+        lowest: Price(0),
+        last: Price(0),
+        total: Quantity(0),
+        time: 0,
+    }
+}
+
 // The empty prices, which stand beside a refusal.
 pub fn empty() -> Prices
     ensures { λ r. ⌜ r ≡ noPrices ⌝ }
 {
-    let slots = slots::no_slots();
+    let slot = no_slot();
     Prices {
         seq: 0,
         count: 0,
-        slots,
+        slots: [slot; 10],
     }
-}
-
-// A refusal.
-fn refused(n: u8, length: usize) -> PricesReading
-    ensures { λ r. ⌜ r ≡ refusal n length ⌝ }
-{
-    let prices = empty();
-    PricesReading {
-        answer: Answer::Refused(n, length),
-        prices,
-    }
-}
-
-// An accepted body.
-fn accepted(seq: u32, count: u8, slots: [Slot; 10]) -> PricesReading
-    ensures { λ r. ⌜ r ≡ acceptance seq count slots ⌝ }
-{
-    let prices = Prices { seq, count, slots };
-    let frame = Frame {
-        format: 12,
-        seq,
-        length: FRAME,
-    };
-    PricesReading {
-        answer: Answer::Accepted(frame),
-        prices,
-    }
-}
-
-// The body of a frame with this number.
-pub fn read(body: &[u8], seq: u32) -> PricesReading
-    ensures { λ r. ⌜ r ≡ pricesReading seq (now (body .entry)) ⌝ }
-{
-    if body.len() != BODY {
-        return refused(9, body.len() + 13);
-    }
-    let high = body[0] / 16;
-    let low = body[0] % 16;
-    if high > 9 {
-        return refused(11, FRAME);
-    }
-    if low > 9 {
-        return refused(11, FRAME);
-    }
-    let count = high * 10 + low;
-    let n = count as usize;
-    let f = slots::slots_in(body, n);
-    if !f.good {
-        return refused(11, FRAME);
-    }
-    if !f.timed {
-        return refused(12, FRAME);
-    }
-    if n < 1 {
-        return refused(13, FRAME);
-    }
-    if n > 10 {
-        return refused(13, FRAME);
-    }
-    if !f.ruled {
-        return refused(13, FRAME);
-    }
-    let slots = f.slots;
-    accepted(seq, count, slots)
-}
-
-// Writes prices as a frame at the start of the buffer.
-pub fn write(m: Prices, buf: &mut [u8]) -> Written
-    ensures { λ r. ⌜ (r ≡ writeAnswer (legal twelveCodec m) (frameOf twelveCodec m) (now (buf .entry))) × (now (buf .exit) ≡ writtenOver (legal twelveCodec m) (frameOf twelveCodec m) (now (buf .entry))) ⌝ }
-{
-    if !writing::is_legal(m) {
-        return Written::Illegal;
-    }
-    if buf.len() < FRAME {
-        return Written::NoRoom;
-    }
-    let slots = m.slots;
-    digits::fields::write(m.count as u64, 1, buf, 10);
-    writing::put_slots(slots, buf);
-    close(buf, 12, 3, m.seq, FRAME)
 }

@@ -1,22 +1,18 @@
-// The rules on what the slots hold.
-ghost use Prim.Native.Nat.{_+_, _-_, _*_, _<_};
+// The rules on one slot.
+ghost use Prim.Native.Nat.{_+_, _*_};
 ghost use mathlib.Core.Path.{_≡_};
-ghost use mathlib.Core.Bool.{_&&_, _||_};
-ghost use lib.Dec.{eqb, leb};
+ghost use mathlib.Core.Bool.{_&&_};
+ghost use lib.Dec.{eqb, leb, ltb};
 ghost use Rattle.codes_times.specs.Times.{timeOfDay, nines, every};
-ghost use Rattle.stock_prices.specs.Prices.{slotsPass, slotTimed, slotRuled, slotValues, slotsValues};
+ghost use Rattle.stock_prices.specs.Prices.{partsRight, slotRuled, slotValues};
 use crate::Slot;
 
-// All nines: the closing price.
-const NINES: u64 = 999_999_999_999;
-
 // What a time's last eight digits, its seconds and fraction, count up to.
-pub(crate) const ABOVE_EIGHT: u64 = 100_000_000;
+pub const ABOVE_EIGHT: u64 = 100_000_000;
 
 // Hours and minutes, and seconds with six digits of a free fraction.
-pub(crate) fn day_of(hhmm: u32, rest: u32) -> bool
-    requires { ⌜ rest < 100000000 ⌝ }
-    ensures { λ r. ⌜ r ≡ timeOfDay 6 (hhmm * 100000000 + rest) ⌝ }
+fn day_of(hhmm: u32, rest: u32) -> bool
+    ensures { λ r. ⌜ r ≡ (ltb rest 100000000 && timeOfDay 6 (hhmm * 100000000 + rest)) ⌝ }
 {
     if hhmm > 2399 {
         return false;
@@ -27,52 +23,27 @@ pub(crate) fn day_of(hhmm: u32, rest: u32) -> bool
     rest < 60_000_000
 }
 
-// The same of a whole time.
-fn time_of_day(t: u64) -> bool
-    ensures { λ r. ⌜ r ≡ timeOfDay 6 t ⌝ }
+// All nines: the closing price.
+fn all_nines(hhmm: u32, rest: u32) -> bool
+    ensures { λ r. ⌜ r ≡ (ltb rest 100000000 && eqb (hhmm * 100000000 + rest) (nines 6)) ⌝ }
 {
-    let hhmm = t / ABOVE_EIGHT;
-    if hhmm > 2399 {
+    if hhmm != 9999 {
         return false;
     }
-    day_of(hhmm as u32, (t % ABOVE_EIGHT) as u32)
+    rest == 99_999_999
 }
 
-// One less, or 0.
-pub(crate) fn less_one(n: usize) -> usize
-    ensures { λ r. ⌜ r ≡ n - 1 ⌝ }
+// A slot's time by its hours and minutes and its last eight digits: one of day, or in a counted slot all nines.
+pub fn time_right(hhmm: u32, rest: u32, counted: bool) -> bool
+    ensures { λ r. ⌜ r ≡ partsRight counted hhmm rest ⌝ }
 {
-    if n > 0 { n - 1 } else { 0 }
-}
-
-// The time of a slot where n counted ones are still to come: one of day, or all nines.
-pub(crate) fn time_right(day: bool, t: u64, n: usize) -> bool
-    ensures { λ r. ⌜ r ≡ (day || (leb 1 n && eqb t (nines 6))) ⌝ }
-{
-    if day {
+    if day_of(hhmm, rest) {
         return true;
     }
-    if n == 0 {
-        return false;
+    if counted {
+        return all_nines(hhmm, rest);
     }
-    t == NINES
-}
-
-// Row 12: every slot's time, of which the first n slots are counted.
-pub(crate) fn timed(slots: [Slot; 10], n: usize) -> bool
-    ensures { λ r. ⌜ r ≡ slotsPass slotTimed 10 n (slotsValues slots) ⌝ }
-{
-    let mut i = 0;
-    let mut left = n;
-    while i < 10 {
-        let s = slots[i];
-        if !time_right(time_of_day(s.time), s.time, left) {
-            return false;
-        }
-        left = less_one(left);
-        i += 1;
-    }
-    true
+    false
 }
 
 // Every byte of a code lies between two.
@@ -107,12 +78,12 @@ fn all_zero(amounts: [u64; 6]) -> bool
     true
 }
 
-// The fields of a slot where n counted ones are still to come.
-pub(crate) fn slot_right(s: Slot, n: usize) -> bool
-    ensures { λ r. ⌜ r ≡ slotRuled n (slotValues s) ⌝ }
+// The fields of a slot, counted or not.
+pub fn slot_right(s: Slot, counted: bool) -> bool
+    ensures { λ r. ⌜ r ≡ slotRuled counted (slotValues s) ⌝ }
 {
     let code = s.code;
-    if n > 0 {
+    if counted {
         return all_between(code, 32, 126);
     }
     if !all_between(code, 32, 32) {
@@ -127,21 +98,4 @@ pub(crate) fn slot_right(s: Slot, n: usize) -> bool
         s.time,
     ];
     all_zero(amounts)
-}
-
-// Row 13 for every slot, of which the first n are counted.
-pub(crate) fn ruled(slots: [Slot; 10], n: usize) -> bool
-    ensures { λ r. ⌜ r ≡ slotsPass slotRuled 10 n (slotsValues slots) ⌝ }
-{
-    let mut i = 0;
-    let mut left = n;
-    while i < 10 {
-        let s = slots[i];
-        if !slot_right(s, left) {
-            return false;
-        }
-        left = less_one(left);
-        i += 1;
-    }
-    true
 }

@@ -1,6 +1,5 @@
 -- `rules::slot_right` meets its contract.
 use mathlib.Core.Path.{sym, _∙_}
-use native.Mathlib.Omega.{arith}
 use borrow.Author.Needs.{needs}
 use borrow.Author.Tests.{not-true, not-false}
 use Rattle.stock_prices.proofs.Shapes.{code-long}
@@ -14,7 +13,7 @@ all-between-requires c κs = search needs
 returns : tie.Need-returns
 returns c =
     let o = c .before .before .before in
-    c .all-between .ensures ∙ sym (counted-is (o .args .s) (code-long (o .args .s) _ (o .good .0)) (o .args .n) (omega arith))
+    c .all-between .ensures ∙ sym (counted-is (o .args .s) (code-long (o .args .s) _ (o .good .0)) (o .args .counted) (c .before .if1 .taken))
 
 all-between-requires-2 : tie.Need-all-between-requires-2
 all-between-requires-2 c κs = search needs
@@ -22,7 +21,7 @@ all-between-requires-2 c κs = search needs
 returns-2 : tie.Need-returns-2
 returns-2 c =
     let o = c .before .before .before .before in
-    sym (unused-fails (o .args .s) (code-long (o .args .s) _ (o .good .0)) (o .args .n) (omega arith)
+    sym (unused-fails (o .args .s) (code-long (o .args .s) _ (o .good .0)) (o .args .counted) (c .before .before .if1 .left)
     (sym (c .before .all-between2 .ensures) ∙ not-true _ (c .if2 .taken)))
 
 cast-t7 : tie.Need-cast-t7
@@ -48,7 +47,7 @@ returns-3 c =
     let b = c .before .before .before .before .before .before in
     let o = b .before .before .before .before in
     c .all-zero .ensures
-    ∙ sym (unused-zero (o .args .s) (code-long (o .args .s) _ (o .good .0)) (o .args .n) (omega (arith, o))
+    ∙ sym (unused-zero (o .args .s) (code-long (o .args .s) _ (o .good .0)) (o .args .counted) (b .before .before .if1 .left)
     (sym (b .before .all-between2 .ensures) ∙ not-false _ (b .if2 .left)))
 
 pub slot-right-spec : {M : Type 1} → statement M

@@ -1,27 +1,36 @@
 -- `rules::time_right` meets its contract.
-use mathlib.Core.Path.{_≡_, sym, ap₂}
-use mathlib.Core.Bool.{Bool, _&&_, _||_}
-use lib.Dec.{eqb}
+use mathlib.Core.Path.{sym, ap, _∙_}
+use mathlib.Core.Bool.{Bool, _&&_}
 use borrow.Author.Needs.{needs}
-use borrow.Author.Tests.{le-leb, lt-leb}
-use native.Mathlib.Omega.{arith}
-use Rattle.codes_times.specs.Times.{nines}
+use Rattle.stock_prices.proofs.RuleLaws.{ninesRight, right-day, right-other}
 use Rattle.stock_prices.proofs.rules.time_right.Statement.{statement}
 use Rattle.stock_prices.proofs.rules.time_right.Tie as tie
 
+day-of-requires : tie.Need-day-of-requires
+day-of-requires c κs = search needs
+
 returns : tie.Need-returns
-returns c = search needs
+returns c =
+    let a = c .before .before .args in
+    right-day (a .hhmm) (a .rest) (a .counted) (sym (c .before .day-of .ensures) ∙ c .if1 .taken)
+
+all-nines-requires : tie.Need-all-nines-requires
+all-nines-requires c κs = search needs
 
 returns-2 : tie.Need-returns-2
 returns-2 c =
-    let a = c .before .before .args in
-    sym (ap₂ (λ (u v : Bool). u || (v && eqb (a .t) (nines 6))) (c .before .if1 .left) (lt-leb 1 (a .n) (omega arith)))
+    let k = c .before .before in
+    let a = k .before .before .args in
+    c .all-nines .ensures
+    ∙ sym (ap (λ (t : Bool). t && ninesRight (a .hhmm) (a .rest)) (c .before .if2 .taken))
+    ∙ right-other (a .hhmm) (a .rest) (a .counted) (sym (k .before .day-of .ensures) ∙ k .if1 .left)
 
 returns-3 : tie.Need-returns-3
 returns-3 c =
-    let a = c .before .before .args in
-    let some : a .n ≡ 0 → ⊥ = c .if2 .left in
-    sym (ap₂ (λ (u v : Bool). u || (v && eqb (a .t) (nines 6))) (c .before .if1 .left) (le-leb 1 (a .n) (omega arith)))
+    let k = c .before in
+    let a = k .before .before .args in
+    sym (ap (λ (t : Bool). t && ninesRight (a .hhmm) (a .rest)) (c .if2 .left))
+    ∙ right-other (a .hhmm) (a .rest) (a .counted) (sym (k .before .day-of .ensures) ∙ k .if1 .left)
 
 pub time-right-spec : {M : Type 1} → statement M
-time-right-spec = tie.close (tie.spec returns returns-2 returns-3)
+time-right-spec = tie.close (tie.spec day-of-requires returns all-nines-requires returns-2 returns-3)

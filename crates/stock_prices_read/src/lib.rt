@@ -1,0 +1,96 @@
+// Prices read out of a body.
+ghost use mathlib.Core.Path.{_≡_};
+ghost use Rattle.stock_prices.specs.Prices.{pricesReading};
+ghost use Rattle.digits.specs.Packed.{goodByte};
+ghost use Rattle.stock_prices_read.specs.Steps.{refusal, acceptance, rowOf};
+
+mod slots;
+
+use answers::Answer;
+use answers::Frame;
+use stock_prices::FRAME;
+use stock_prices::Prices;
+use stock_prices::PricesReading;
+use stock_prices::Slot;
+use stock_prices::empty;
+
+// The bytes of a body.
+const BODY: usize = 361;
+
+// A refusal.
+fn refused(n: u8, length: usize) -> PricesReading
+    ensures { λ r. ⌜ r ≡ refusal n length ⌝ }
+{
+    let prices = empty();
+    PricesReading {
+        answer: Answer::Refused(n, length),
+        prices,
+    }
+}
+
+// An accepted body.
+fn accepted(seq: u32, count: u8, slots: [Slot; 10]) -> PricesReading
+    ensures { λ r. ⌜ r ≡ acceptance seq count slots ⌝ }
+{
+    let prices = Prices { seq, count, slots };
+    let frame = Frame {
+        format: 12,
+        seq,
+        length: FRAME,
+    };
+    PricesReading {
+        answer: Answer::Accepted(frame),
+        prices,
+    }
+}
+
+// Both halves of a byte are digits.
+fn good_byte(b: u8) -> bool
+    ensures { λ r. ⌜ r ≡ goodByte b ⌝ }
+{
+    if b / 16 > 9 {
+        return false;
+    }
+    b % 16 < 10
+}
+
+// The row that fails first, or 0: the slots' digits, their times, the count and the slots' fields.
+fn row_of(good: bool, timed: bool, n: usize, ruled: bool) -> u8
+    ensures { λ r. ⌜ r ≡ rowOf good timed n ruled ⌝ }
+{
+    if !good {
+        return 11;
+    }
+    if !timed {
+        return 12;
+    }
+    if n < 1 {
+        return 13;
+    }
+    if n > 10 {
+        return 13;
+    }
+    if ruled { 0 } else { 13 }
+}
+
+// The body of a frame with this number.
+pub fn read(body: &[u8], seq: u32) -> PricesReading
+    ensures { λ r. ⌜ r ≡ pricesReading seq (now (body .entry)) ⌝ }
+{
+    if body.len() != BODY {
+        return refused(9, body.len() + 13);
+    }
+    let b = body[0];
+    if !good_byte(b) {
+        return refused(11, FRAME);
+    }
+    let count = b / 16 * 10 + b % 16;
+    let n = count as usize;
+    let f = slots::slots_in(body, n);
+    let row = row_of(f.good, f.timed, n, f.ruled);
+    if row > 0 {
+        return refused(row, FRAME);
+    }
+    let slots = f.slots;
+    accepted(seq, count, slots)
+}
