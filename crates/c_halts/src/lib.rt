@@ -56,5 +56,5 @@ pub extern "C" fn trivsome_write_halt_numbers(
         return of_written(Written::Illegal);
     }
     let halt = halt_of(seq, code, event);
-    of_written(stock_halts::write(halt, buf))
+    of_written(stock_halts_write::write(halt, buf))
 }

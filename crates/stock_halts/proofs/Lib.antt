@@ -1,7 +1,5 @@
-pub mod TimeLaws
+-- The laws that the proofs cite, and the theorems that belong to no one function.
 pub mod CountLaws
 pub mod RuleLaws
 pub mod HaltLaws
-pub mod ReadLaws
-pub mod WriteLaws
 pub mod Determined

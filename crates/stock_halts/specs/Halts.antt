@@ -52,8 +52,11 @@ abbrev pub digitByte : ℕ → Bool
 digitByte b = leb 48 b && leb b 57
 
 -- row 13: the code's bytes, six digits at the end of a round, and the state
+abbrev pub codeFor : Bool → List ℕ → Bool
+codeFor round code = codeRight code && cond round (every digitByte code) true
+
 abbrev pub codeFits : List ℕ → ℕ → ℕ → Bool
-codeFits code h r = codeRight code && cond (roundTimes h r) (every digitByte code) true
+codeFits code h r = codeFor (roundTimes h r) code
 
 abbrev pub stateRight : ℕ → Bool
 stateRight s = eqb s 67 || eqb s 73
