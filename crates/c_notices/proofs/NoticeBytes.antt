@@ -20,7 +20,7 @@ use Rattle.stock_notices.specs.Notices.{five, fiveCodec, room}
 use Rattle.stock_notices.specs.declared.Notice.{Notice}
 use Rattle.stock_notices.specs.declared.NoticeReading.{NoticeReading}
 use Rattle.stock_notices.proofs.NoticeLaws.{text-length, ranged-text, text-put}
-use Rattle.stock_notices.proofs.ReadSteps.{values-five}
+use Rattle.stock_notices_read.proofs.ReadSteps.{values-five}
 use Rattle.stock_reading.specs.Reading.{answerOf, noticeAt}
 use Rattle.stock_reading.proofs.Trips.{trips-five}
 use Rattle.c_outcomes.specs.Lent.{isOf}

@@ -50,5 +50,5 @@ pub extern "C" fn trivsome_write_notice_numbers(
     ensures { λ r. ⌜ r ≡ writtenOutcome fiveCodec (noticeFrom seq category (now (text .entry))) (now (buf .entry)) ⌝ }
     ensures { λ _. ⌜ now (buf .exit) ≡ writtenBytes fiveCodec (noticeFrom seq category (now (text .entry))) (now (buf .entry)) ⌝ }
 {
-    of_written(stock_notices::write_text(seq, category, text, buf))
+    of_written(stock_notices_write::write_text(seq, category, text, buf))
 }

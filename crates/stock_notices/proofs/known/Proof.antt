@@ -1,6 +1,6 @@
 -- `known` meets its contract: the keys of the arm are the four categories.
 use mathlib.Core.Path.{sym}
-use Rattle.stock_notices.proofs.ReadSteps.{one-known, none-known}
+use Rattle.stock_notices.proofs.CategoryLaws.{one-known, none-known}
 use Rattle.stock_notices.proofs.known.Statement.{statement}
 use Rattle.stock_notices.proofs.known.Tie as tie
 

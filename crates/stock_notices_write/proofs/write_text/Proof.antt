@@ -7,11 +7,11 @@ use borrow.Author.Tests.{not-true, not-false}
 use lib.ListN.{length-set}
 use Rattle.stock_frame.specs.Codec.{legal, frameOf}
 use Rattle.stock_frame.proofs.MessageLaws.{write-illegal}
 use Rattle.stock_notices.specs.Notices.{fiveCodec, fiveRuled, noticeFrom}
-use Rattle.stock_notices.proofs.WriteSteps.{illegal-seq, illegal-long, illegal-category, known-small, notice-written, notice-room}
+use Rattle.stock_notices_write.proofs.WriteSteps.{illegal-seq, illegal-long, illegal-category, known-small, notice-written, notice-room}
 use borrow.Author.Needs.{needs}
-use Rattle.stock_notices.proofs.write_text.Statement.{statement}
-use Rattle.stock_notices.proofs.write_text.Tie as tie
+use Rattle.stock_notices_write.proofs.write_text.Statement.{statement}
+use Rattle.stock_notices_write.proofs.write_text.Tie as tie
 
 returns : tie.Need-returns
 returns c =

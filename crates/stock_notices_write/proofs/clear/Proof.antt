@@ -6,9 +6,9 @@ use borrow.Author.Needs.{needs}
 use lib.ListN.{length, drop}
 use lib.Dec.{eqb}
 use Rattle.codes_times.specs.Times.{every}
-use Rattle.stock_notices.proofs.WriteSteps.{zeros-broken, zeros-next, zeros-end}
-use Rattle.stock_notices.proofs.clear.Statement.{statement}
-use Rattle.stock_notices.proofs.clear.Tie as tie
+use Rattle.stock_notices_write.proofs.WriteSteps.{zeros-broken, zeros-next, zeros-end}
+use Rattle.stock_notices_write.proofs.clear.Statement.{statement}
+use Rattle.stock_notices_write.proofs.clear.Tie as tie
 
 abbrev Inv-loop : tie.InvT-loop
 Inv-loop text from k₀ k = every (eqb 0) (drop k text) ≡ every (eqb 0) (drop from text)

@@ -3,7 +3,6 @@ use Prim.Native.Nat.{ℕ, suc, _+_, _-_, _*_, _/_, _%_, _≤_, _<_}
 use mathlib.Core.Path.{_≡_, refl, sym, ap, ap₂, _∙_}
 use mathlib.Core.Bool.{Bool, true, false, cond, _&&_, and-true}
 use mathlib.Core.List.{List, [], _∷_}
-use mathlib.Core.Logic.{_⊎_, inl, inr}
 use native.Mathlib.Omega.{arith}
 use lib.ListN.{length, getD, take, drop, replicate, length-drop}
 use lib.Seq.{take-all, take-length}
@@ -18,24 +17,11 @@ use Rattle.stock_frame.specs.Format.{valuesOf, bodyRows, bodyAnswer}
 use Rattle.layout.specs.Bytes.{bytesOver}
 use Rattle.layout.proofs.RowLaws.{pass}
 use Rattle.answers.specs.declared.Answer.{Answer}
 use Rattle.stock_notices.specs.Notices.{five, fiveRuled, room, noticeOf, noNotice, noticeReading}
 use Rattle.stock_notices.specs.declared.Notice.{Notice}
 use Rattle.stock_notices.specs.declared.NoticeReading.{NoticeReading}
 use Rattle.stock_notices.proofs.RawLaws.{good-raws, decode-raws}
 use Rattle.stock_notices.proofs.NoticeLaws.{size-five, text-put}
-
--- ---- the category
--- one of the four
-pub one-known : (c : ℕ) → (c ≡ 0) ⊎ ((c ≡ 9) ⊎ ((c ≡ 90) ⊎ (c ≡ 99))) → fiveRuled (c ∷ []) ≡ true
-one-known c (inl e) = rw e
-one-known c (inr (inl e)) = rw e
-one-known c (inr (inr (inl e))) = rw e
-one-known c (inr (inr (inr e))) = rw e
-
--- none of the four
-pub none-known : (c : ℕ) → ((c ≡ 0) ⊎ ((c ≡ 9) ⊎ ((c ≡ 90) ⊎ (c ≡ 99))) → ⊥) → fiveRuled (c ∷ []) ≡ false
-none-known c h =
-    rw (ne-eqb c 0 (λ e. h (inl e)), ne-eqb c 9 (λ e. h (inr (inl e))), ne-eqb c 90 (λ e. h (inr (inr (inl e)))), ne-eqb c 99 (λ e. h (inr (inr (inr e)))))
 
 -- ---- the rows
 -- a category's byte holds a field 9(2) where its halves are digits

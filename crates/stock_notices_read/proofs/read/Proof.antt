@@ -2,10 +2,10 @@
 use mathlib.Core.Path.{_∙_, sym}
 use native.Mathlib.Omega.{arith}
 use borrow.Author.Tests.{not-true, not-false}
-use Rattle.stock_notices.proofs.ReadSteps.{row-short, row-long, row-high, row-low, row-unknown, row-none, read-refused, read-accepted}
+use Rattle.stock_notices_read.proofs.ReadSteps.{row-short, row-long, row-high, row-low, row-unknown, row-none, read-refused, read-accepted}
 use borrow.Author.Needs.{needs}
-use Rattle.stock_notices.proofs.read.Statement.{statement}
-use Rattle.stock_notices.proofs.read.Tie as tie
+use Rattle.stock_notices_read.proofs.read.Statement.{statement}
+use Rattle.stock_notices_read.proofs.read.Tie as tie
 
 refused-requires : tie.Need-refused-requires
 refused-requires c κs = search needs

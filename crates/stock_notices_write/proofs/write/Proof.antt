@@ -8,13 +8,13 @@ use lib.Seq.{length-take-le}
 use Rattle.stock_frame.specs.Codec.{legal, frameOf}
 use Rattle.stock_frame.specs.Writing.{writeAnswer, writtenOver}
 use Rattle.stock_frame.proofs.MessageLaws.{write-illegal}
 use Rattle.stock_notices.specs.Notices.{fiveCodec, room, tidyNotice}
 use Rattle.stock_notices.specs.declared.Notice.{Notice}
 use Rattle.stock_notices.proofs.NoticeLaws.{from-parts}
-use Rattle.stock_notices.proofs.WriteSteps.{illegal-long, illegal-places}
+use Rattle.stock_notices_write.proofs.WriteSteps.{illegal-long, illegal-places}
 use borrow.Author.Needs.{needs}
-use Rattle.stock_notices.proofs.write.Statement.{statement}
-use Rattle.stock_notices.proofs.write.Tie as tie
+use Rattle.stock_notices_write.proofs.write.Statement.{statement}
+use Rattle.stock_notices_write.proofs.write.Tie as tie
 
 returns : tie.Need-returns
 returns c =
