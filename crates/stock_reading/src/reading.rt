@@ -8,11 +8,11 @@ use answers::Answer;
 use stock_frame::head::Outline;
 use stock_frame::outline::outline;
 use stock_halts::HaltReading;
-use stock_halts::read as halt_in;
+use stock_halts_read::read as halt_in;
 use stock_notices::NoticeReading;
-use stock_notices::read as notice_in;
+use stock_notices_read::read as notice_in;
 use stock_prices::PricesReading;
-use stock_prices::read as prices_in;
+use stock_prices_read::read as prices_in;
 use stock_quotes::quote::QuoteReading;
 use stock_quotes::reading::read as quote_in;
 
