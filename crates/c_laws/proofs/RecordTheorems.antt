@@ -16,7 +16,7 @@ use Rattle.stock_notices.specs.Notices.{room, tidyNotice, ShapedNotice}
 use Rattle.stock_notices.specs.declared.Notice.{Notice}
 use Rattle.stock_notices.proofs.NoticeLaws.{from-parts}
 use Rattle.stock_quotes.specs.Quotes.{ShapedQuote}
-use Rattle.stock_quotes.specs.declared.quote.Quote.{Quote}
+use Rattle.stock_quotes.specs.declared.Quote.{Quote}
 use Rattle.stock_quotes.proofs.QuoteLaws.{of-six}
 use Rattle.stock_halts.specs.Halts.{resumeOf, resumeNumber, sendingOf, sendingByte, sameResume, tidyEvent}
 use Rattle.stock_halts.specs.declared.Resume.{Resume}

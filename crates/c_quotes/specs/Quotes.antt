@@ -5,8 +5,9 @@ use lib.ListN.{getD}
 use Rattle.amounts.specs.Amounts.{asQuantity}
 use Rattle.amounts.specs.declared.Pair.{Pair}
 use Rattle.codes_times.specs.Times.{codeAt}
-use Rattle.stock_quotes.specs.Quotes.{pair, flat, sideRoom}
-use Rattle.stock_quotes.specs.declared.quote.Quote.{Quote}
+use Rattle.stock_quotes.specs.Reveal.{sideRoom}
+use Rattle.stock_quotes.specs.Quotes.{pair, flat}
+use Rattle.stock_quotes.specs.declared.Quote.{Quote}
 
 -- a quote's code, reveal, limit and status bytes
 abbrev pub quoteBytes : Quote → List ℕ

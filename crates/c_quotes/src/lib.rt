@@ -57,5 +57,5 @@ pub extern "C" fn trivsome_write_quote_numbers(
     ensures { λ _. ⌜ now (buf .exit) ≡ writtenBytes sixCodec (quoteFrom seq (now (bytes .entry)) time (now (amounts .entry))) (now (buf .entry)) ⌝ }
 {
     let quote = quote_of(seq, bytes, time, amounts);
-    of_written(stock_quotes::writing::write(quote, buf))
+    of_written(stock_quotes_write::write(quote, buf))
 }

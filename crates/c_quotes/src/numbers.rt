@@ -6,7 +6,7 @@ use amounts::Pair;
 use amounts::Price;
 use amounts::Quantity;
 use codes_times::code_at;
-use stock_quotes::quote::Quote;
+use stock_quotes::Quote;
 
 // A quote's code, reveal, limit and status bytes.
 pub(crate) fn quote_bytes(q: Quote) -> [u8; 9]

@@ -21,7 +21,8 @@ use stock_halts::Sending;
 use stock_notices::Notice;
 use stock_prices::Prices;
 use stock_prices::Slot;
-use stock_quotes::quote::Quote;
+use stock_quotes::Quote;
+use stock_quotes::Reveal;
 use stock_reading::reading::read_halt;
 use stock_reading::reading::read_notice;
 use stock_reading::reading::read_prices;
@@ -116,10 +117,10 @@ fn put_pairs(out: &mut [u8], at: usize, q: Quote) -> usize {
     let trade = q.trade;
     let bids = q.bids;
     let asks = q.asks;
-    let reveal = q.reveal as usize;
-    let at = put_trade(out, at, trade, reveal >= 128);
-    let at = put_side(out, at, b"bids", bids, reveal / 16 % 8);
-    put_side(out, at, b"asks", asks, reveal / 2 % 8)
+    let shown = Reveal::from_byte(q.reveal);
+    let at = put_trade(out, at, trade, 0 < shown.trades);
+    let at = put_side(out, at, b"bids", bids, shown.bids);
+    put_side(out, at, b"asks", asks, shown.asks)
 }
 
 // The three bytes of flags and the day's total.

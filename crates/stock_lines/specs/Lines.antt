@@ -10,7 +10,7 @@ use Rattle.answers.specs.declared.Answer.the-variants.{Accepted, NoFrame, Refus
 use Rattle.stock_notices.specs.Notices.{fiveCodec, noNotice}
 use Rattle.stock_notices.specs.declared.Notice.{Notice}
 use Rattle.stock_quotes.specs.Quotes.{sixCodec, noQuote}
-use Rattle.stock_quotes.specs.declared.quote.Quote.{Quote}
+use Rattle.stock_quotes.specs.declared.Quote.{Quote}
 use Rattle.stock_prices.specs.Prices.{twelveCodec, noPrices}
 use Rattle.stock_prices.specs.declared.Prices.{Prices}
 use Rattle.stock_halts.specs.Halts.{nineteenCodec, noHalt}

@@ -1,34 +1,48 @@
--- The contracts of reading and writing a quote leave no choice: any two results that they allow are equal.
+-- Every public function's contract allows one result: any two that it allows are equal.
 use mathlib.Core.Path.{_≡_, sym, _∙_}
 use contract.Lifetimes
 use borrow.Fn.World
 use borrow.Fn.Kinds as kinds
 use denote.Triple.Clauses
-use denote.Ref.{now}
-use Rattle.stock_quotes.proofs.reading.read
-use Rattle.stock_quotes.proofs.reading.read.Kinds as rown
-use Rattle.stock_quotes.proofs.reading.read.Reads as rreads
-use Rattle.stock_quotes.proofs.writing.write
-use Rattle.stock_quotes.proofs.writing.write.Kinds as wown
-use Rattle.stock_quotes.proofs.writing.write.Reads as wreads
-use Rattle.stock_quotes.proofs.reading.empty as none
-use Rattle.stock_quotes.proofs.reading.empty.Kinds as nown
-use Rattle.stock_quotes.proofs.reading.empty.Reads as nreads
+use Rattle.stock_quotes.proofs.empty
+use Rattle.stock_quotes.proofs.empty.Kinds as empty-kinds
+use Rattle.stock_quotes.proofs.empty.Reads as empty-reads
+use Rattle.stock_quotes.proofs.no_pair
+use Rattle.stock_quotes.proofs.no_pair.Kinds as pair-kinds
+use Rattle.stock_quotes.proofs.no_pair.Reads as pair-reads
+use Rattle.stock_quotes.proofs.timed
+use Rattle.stock_quotes.proofs.timed.Kinds as timed-kinds
+use Rattle.stock_quotes.proofs.timed.Reads as timed-reads
+use Rattle.stock_quotes.proofs.body_length
+use Rattle.stock_quotes.proofs.body_length.Kinds as length-kinds
+use Rattle.stock_quotes.proofs.body_length.Reads as length-reads
+use Rattle.stock_quotes.proofs.Reveal.from_byte
+use Rattle.stock_quotes.proofs.Reveal.from_byte.Kinds as byte-kinds
+use Rattle.stock_quotes.proofs.Reveal.from_byte.Reads as byte-reads
+use Rattle.stock_quotes.proofs.Reveal.levels_right
+use Rattle.stock_quotes.proofs.Reveal.levels_right.Kinds as levels-kinds
+use Rattle.stock_quotes.proofs.Reveal.levels_right.Reads as levels-reads
 
--- what `read` answers, the quote with it
-pub determined-read : (κs : Lifetimes.Lfts 1) (a : World.ArgsD read.signature κs) (r₁ r₂ : World.ResD read.signature κs)
-    (s₁ s₂ : Clauses.AtExit (kinds.endedOf 1 rown.ps rown.r) κs) → rreads.Post κs a r₁ s₁ → rreads.Post κs a r₂ s₂
-    → r₁ ≡ r₂
-determined-read κs a r₁ r₂ s₁ s₂ p q = p ∙ sym q
-
--- what `write` answers, and the bytes afterwards
-pub determined-write : (κs : Lifetimes.Lfts 1) (a : World.ArgsD write.signature κs) (r₁ r₂ : World.ResD write.signature κs)
-    (s₁ s₂ : Clauses.AtExit (kinds.endedOf 1 wown.ps wown.r) κs) → wreads.Post κs a r₁ s₁ → wreads.Post κs a r₂ s₂
-    → (r₁ ≡ r₂) × (now (s₁ .1 .0) ≡ now (s₂ .1 .0))
-determined-write κs a r₁ r₂ s₁ s₂ p q = (p .0 ∙ sym (q .0), p .1 ∙ sym (q .1))
-
--- what `empty` gives
-pub determined-empty : (κs : Lifetimes.Lfts 0) (a : World.ArgsD none.signature κs) (r₁ r₂ : World.ResD none.signature κs)
-    (s₁ s₂ : Clauses.AtExit (kinds.endedOf 0 nown.ps nown.r) κs) → nreads.Post κs a r₁ s₁ → nreads.Post κs a r₂ s₂
-    → r₁ ≡ r₂
+pub determined-empty : (κs : Lifetimes.Lfts 0) (a : World.ArgsD empty.signature κs) (r₁ r₂ : World.ResD empty.signature κs)
+    (s₁ s₂ : Clauses.AtExit (kinds.endedOf 0 empty-kinds.ps empty-kinds.r) κs) → empty-reads.Post κs a r₁ s₁ → empty-reads.Post κs a r₂ s₂ → r₁ ≡ r₂
 determined-empty κs a r₁ r₂ s₁ s₂ p q = p ∙ sym q
+
+pub determined-no-pair : (κs : Lifetimes.Lfts 0) (a : World.ArgsD no_pair.signature κs) (r₁ r₂ : World.ResD no_pair.signature κs)
+    (s₁ s₂ : Clauses.AtExit (kinds.endedOf 0 pair-kinds.ps pair-kinds.r) κs) → pair-reads.Post κs a r₁ s₁ → pair-reads.Post κs a r₂ s₂ → r₁ ≡ r₂
+determined-no-pair κs a r₁ r₂ s₁ s₂ p q = p ∙ sym q
+
+pub determined-timed : (κs : Lifetimes.Lfts 1) (a : World.ArgsD timed.signature κs) (r₁ r₂ : World.ResD timed.signature κs)
+    (s₁ s₂ : Clauses.AtExit (kinds.endedOf 1 timed-kinds.ps timed-kinds.r) κs) → timed-reads.Post κs a r₁ s₁ → timed-reads.Post κs a r₂ s₂ → r₁ ≡ r₂
+determined-timed κs a r₁ r₂ s₁ s₂ p q = p ∙ sym q
+
+pub determined-body-length : (κs : Lifetimes.Lfts 0) (a : World.ArgsD body_length.signature κs) (r₁ r₂ : World.ResD body_length.signature κs)
+    (s₁ s₂ : Clauses.AtExit (kinds.endedOf 0 length-kinds.ps length-kinds.r) κs) → length-reads.Post κs a r₁ s₁ → length-reads.Post κs a r₂ s₂ → r₁ ≡ r₂
+determined-body-length κs a r₁ r₂ s₁ s₂ p q = p ∙ sym q
+
+pub determined-Reveal-from-byte : (κs : Lifetimes.Lfts 0) (a : World.ArgsD from_byte.signature κs) (r₁ r₂ : World.ResD from_byte.signature κs)
+    (s₁ s₂ : Clauses.AtExit (kinds.endedOf 0 byte-kinds.ps byte-kinds.r) κs) → byte-reads.Post κs a r₁ s₁ → byte-reads.Post κs a r₂ s₂ → r₁ ≡ r₂
+determined-Reveal-from-byte κs a r₁ r₂ s₁ s₂ p q = p ∙ sym q
+
+pub determined-Reveal-levels-right : (κs : Lifetimes.Lfts 0) (a : World.ArgsD levels_right.signature κs) (r₁ r₂ : World.ResD levels_right.signature κs)
+    (s₁ s₂ : Clauses.AtExit (kinds.endedOf 0 levels-kinds.ps levels-kinds.r) κs) → levels-reads.Post κs a r₁ s₁ → levels-reads.Post κs a r₂ s₂ → r₁ ≡ r₂
+determined-Reveal-levels-right κs a r₁ r₂ s₁ s₂ p q = p ∙ sym q

@@ -1,9 +1,5 @@
+pub mod RevealLaws
+pub mod TimeLaws
 pub mod PairLaws
 pub mod QuoteLaws
-pub mod SideLaws
-pub mod ReadLaws
-pub mod BodyLaws
-pub mod PartLaws
-pub mod LegalLaws
-pub mod WriteLaws
 pub mod Determined

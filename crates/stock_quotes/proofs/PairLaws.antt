@@ -2,15 +2,19 @@
 use Prim.Native.Nat.{ℕ, zero, suc, _+_, _-_, _*_, _≤_, _<_}
 use mathlib.Core.Path.{_≡_, refl, sym, ap, ap₂, _∙_}
 use mathlib.Core.Bool.{true}
-use mathlib.Core.List.{List, [], _∷_, _++_}
+use mathlib.Core.List.{List, [], _∷_, _++_, map}
 use native.Mathlib.Omega.{arith}
-use lib.ListN.{length, getD, take, drop, replicate, length-append, length-drop, length-replicate, take-append-drop}
+use lib.ListN.{length, getD, take, drop, replicate, length-append, length-drop, length-replicate, length-map, take-append-drop}
 use lib.Seq.{take-at, drop-at, length-take-le, take-all}
 use lib.Dec.{eqb}
 use borrow.Author.Tests.{eqb-true}
 use Rattle.amounts.specs.declared.Pair.{Pair}
 use Rattle.digits.proofs.Bools.{and-left, and-right}
-use Rattle.stock_quotes.specs.Quotes.{pair, noPair, pairsOf, flat, sideRoom, padded, zeroPairs, pairCells}
+use Rattle.layout.specs.Cells.{size}
+use Rattle.stock_quotes.specs.declared.Reveal.{Reveal}
+use Rattle.stock_quotes.specs.Reveal.{revealed, sideRoom, pairCount}
+use Rattle.stock_quotes.proofs.RevealLaws.{pairs-lt}
+use Rattle.stock_quotes.specs.Quotes.{pair, noPair, pairsOf, flat, padded, zeroPairs, pairCells, sixCells, bodyLength}
 
 -- ---- numbers as pairs
 pub pairsOf-flat : (ps : List Pair) → pairsOf (flat ps) ≡ ps
@@ -22,6 +26,25 @@ pub length-pairCells : (n : ℕ) → length (pairCells n) ≡ 2 * n
 unfolding pairCells
 length-pairCells zero = refl
 length-pairCells (suc n) = omega (arith, length-pairCells n)
+
+-- a pair takes nine bytes, and what stands before the pairs nineteen
+size-pairCells : (n : ℕ) → size (pairCells n) ≡ 9 * n
+unfolding pairCells
+size-pairCells zero = refl
+size-pairCells (suc n) = omega (arith, size-pairCells n)
+
+pub size-six : (n : ℕ) → size (sixCells n) ≡ 19 + 9 * n
+size-six n = omega (arith, size-pairCells n)
+
+pub length-dictated : (r : Reveal) (reveal : ℕ) → r ≡ revealed reveal → 19 + 9 * pairCount r ≡ bodyLength reveal
+length-dictated r reveal e = ap (λ (x : Reveal). 19 + 9 * pairCount x) e ∙ sym (size-six (pairCount (revealed reveal)))
+
+pub length-small : (reveal : ℕ) → bodyLength reveal < 155
+length-small reveal = omega (arith, size-six (pairCount (revealed reveal)), pairs-lt (revealed reveal) reveal refl)
+
+-- an array of structs in a struct has its length, which its elements' own lists tell
+pub length-mapped : (A B : Type 0) (f : A → B) (l : List A) (n : ℕ) → length (map f l) ≡ n → length l ≡ n
+length-mapped A B f l n e = sym (length-map l f) ∙ e
 
 pub flat-pairsOf : (k : ℕ) (vs : List ℕ) → length vs ≡ 2 * k → flat (pairsOf vs) ≡ vs
 flat-pairsOf k [] h = refl

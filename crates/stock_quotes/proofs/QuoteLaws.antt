@@ -6,20 +6,22 @@ use mathlib.Core.List.{List, [], _∷_, _++_}
 use native.Mathlib.Omega.{arith}
 use lib.ListN.{length, getD, take, drop, length-drop}
 use lib.Seq.{getD-take, getD-drop, length-take-le}
-use lib.Dec.{leb, lit<, lit≤}
-use borrow.Author.Tests.{leb-true}
+use lib.Dec.{lit<, lit≤}
 use Rattle.amounts.specs.Amounts.{asQuantity}
 use Rattle.amounts.specs.declared.Pair.{Pair}
 use Rattle.digits.proofs.Bools.{and-left, and-right, and-both}
 use Rattle.layout.specs.Cells.{decode, encode}
-use Rattle.stock_frame.specs.Format.{Format, valuesOf}
+use Rattle.stock_frame.specs.Format.{valuesOf}
 use Rattle.stock_frame.specs.Codec.{legal, frameOf}
 use Rattle.stock_frame.specs.Outline.{own}
 use Rattle.layout.proofs.CellLaws.{length-decode}
 use Rattle.stock_frame.proofs.FormatLaws.{Bodied}
 use Rattle.stock_frame.proofs.CodecLaws.{Lawful, Reads, legal-levels, legal-tidy, read-written, written-read, legal-read}
-use Rattle.stock_quotes.specs.declared.quote.Quote.{Quote}
-use Rattle.stock_quotes.specs.Quotes.{trades, bidLevels, askLevels, pairCount, pairCells, sixCells, codeOf, timeOf, revealOf, sixLevels, six, noPair, pairsOf, flat, sideRoom, padded, tradePart, bidPart, askPart, quoteOf, usedPairs, quoteValues, zeroPairs, tidyQuote, sixCodec, ShapedQuote}
+use Rattle.stock_quotes.specs.declared.Quote.{Quote}
+use Rattle.stock_quotes.specs.declared.Reveal.{Reveal}
+use Rattle.stock_quotes.specs.Reveal.{revealed, sideRoom, levelsRight, pairCount}
+use Rattle.stock_quotes.specs.Quotes.{pairCells, sixCells, codeOf, timeOf, revealOf, sixLevels, six, noPair, pairsOf, flat, padded, tradePart, bidPart, askPart, quoteOf, usedPairs, quoteValues, zeroPairs, tidyQuote, sixCodec, ShapedQuote}
+use Rattle.stock_quotes.proofs.RevealLaws.{trades-lt, bids-few, asks-few}
 use Rattle.stock_quotes.proofs.PairLaws.{pairsOf-flat, flat-pairsOf, length-pairsOf, length-pairCells, zero-replicate, take-padded, drop-padded, length-padded, padded-take, trade-kept, trade-zero, trade-part, length-trade, first-part, second-part, third-part, three-parts}
 
 -- what holds of every list of six holds of a list whose length is six
@@ -32,9 +34,6 @@ of-six P p (a ∷ b ∷ c ∷ []) h = absurd (omega arith)
 of-six P p (a ∷ b ∷ c ∷ d ∷ []) h = absurd (omega arith)
 of-six P p (a ∷ b ∷ c ∷ d ∷ e ∷ []) h = absurd (omega arith)
 of-six P p (a ∷ b ∷ c ∷ d ∷ e ∷ f ∷ g ∷ l) h = absurd (omega arith)
-
-trades-lt : (r : ℕ) → trades r < 2
-trades-lt r = omega arith
 
 -- ---- the reveal byte stands where the cells look for it
 reveal-written : (n time reveal : ℕ) (vs code : List ℕ) → length code ≡ 6 → getD (encode (sixCells n) (code ++ (time ∷ reveal ∷ vs))) 12 0 ≡ reveal
@@ -53,9 +52,9 @@ quoteWith seq code time r limit status total ps = record {
   limit = limit;
   status = status;
   total = asQuantity total;
-  trade = getD (tradePart r ps) 0 noPair;
-  bids = padded (bidPart r ps);
-  asks = padded (askPart r ps);
+  trade = getD (tradePart (revealed r) ps) 0 noPair;
+  bids = padded (bidPart (revealed r) ps);
+  asks = padded (askPart (revealed r) ps);
 }
 
 quoteOf-parts : (seq time r limit status total : ℕ) (ps : List Pair) (code : List ℕ) → length code ≡ 6
@@ -69,55 +68,52 @@ reveal-parts time r vs code h = of-six (λ l. revealOf (l ++ (time ∷ r ∷ vs)
 
 -- ---- a quote's numbers give the quote
 module _ (m : Quote) (s : ShapedQuote m) (levels : sixLevels (quoteValues m) ≡ true) (tidy : tidyQuote m ≡ true) where
-  abbrev r : ℕ
-  r = m .reveal
+  abbrev r : Reveal
+  r = revealed (m .reveal)
 
-  level-counts : (leb (bidLevels r) 5 && leb (askLevels r) 5) ≡ true
+  one : r .trades < 2
+  one = trades-lt r (m .reveal) refl
+
+  level-counts : levelsRight r ≡ true
   level-counts =
-      subst (λ (x : ℕ). (leb (bidLevels x) 5 && leb (askLevels x) 5) ≡ true)
-      (reveal-parts (m .time) r (m .limit ∷ m .status ∷ m .total .0 ∷ flat (usedPairs m)) (m .code) (s .code-long)) levels
-
-  bids-few : bidLevels r ≤ 5
-  bids-few = leb-true (bidLevels r) 5 (and-left _ _ level-counts)
-
-  asks-few : askLevels r ≤ 5
-  asks-few = leb-true (askLevels r) 5 (and-right (leb (bidLevels r) 5) _ level-counts)
+      subst (λ (x : ℕ). levelsRight (revealed x) ≡ true)
+      (reveal-parts (m .time) (m .reveal) (m .limit ∷ m .status ∷ m .total .0 ∷ flat (usedPairs m)) (m .code) (s .code-long)) levels
 
   abbrev ts : List Pair
-  ts = take (trades r) (m .trade ∷ [])
+  ts = take (r .trades) (m .trade ∷ [])
 
   abbrev bs : List Pair
-  bs = take (bidLevels r) (m .bids)
+  bs = take (r .bids) (m .bids)
 
   abbrev cs : List Pair
-  cs = take (askLevels r) (m .asks)
+  cs = take (r .asks) (m .asks)
 
-  length-ts : length ts ≡ trades r
-  length-ts = length-trade (trades r) (trades-lt r) (m .trade)
+  length-ts : length ts ≡ r .trades
+  length-ts = length-trade (r .trades) one (m .trade)
 
-  length-bs : length bs ≡ bidLevels r
-  length-bs = length-take-le (bidLevels r) (m .bids) (omega (arith, bids-few, s .bids-long))
+  length-bs : length bs ≡ r .bids
+  length-bs = length-take-le (r .bids) (m .bids) (omega (arith, bids-few r level-counts, s .bids-long))
 
-  length-cs : length cs ≡ askLevels r
-  length-cs = length-take-le (askLevels r) (m .asks) (omega (arith, asks-few, s .asks-long))
+  length-cs : length cs ≡ r .asks
+  length-cs = length-take-le (r .asks) (m .asks) (omega (arith, asks-few r level-counts, s .asks-long))
 
-  zeros : zeroPairs (drop (bidLevels r) (m .bids)) && zeroPairs (drop (askLevels r) (m .asks)) ≡ true
-  zeros = and-right (zeroPairs (drop (trades r) (m .trade ∷ []))) _ tidy
+  zeros : zeroPairs (drop (r .bids) (m .bids)) && zeroPairs (drop (r .asks) (m .asks)) ≡ true
+  zeros = and-right (zeroPairs (drop (r .trades) (m .trade ∷ []))) _ tidy
 
   same-trade : getD (tradePart r (ts ++ (bs ++ cs))) 0 noPair ≡ m .trade
   same-trade =
-      ap (λ (l : List Pair). getD l 0 noPair) (first-part (trades r) (bidLevels r) (askLevels r) ts bs cs length-ts length-bs length-cs)
-      ∙ trade-kept (trades r) (trades-lt r) (m .trade) (and-left _ _ tidy)
+      ap (λ (l : List Pair). getD l 0 noPair) (first-part (r .trades) (r .bids) (r .asks) ts bs cs length-ts length-bs length-cs)
+      ∙ trade-kept (r .trades) one (m .trade) (and-left _ _ tidy)
 
   same-bids : padded (bidPart r (ts ++ (bs ++ cs))) ≡ m .bids
   same-bids =
-      ap padded (second-part (trades r) (bidLevels r) (askLevels r) ts bs cs length-ts length-bs length-cs)
-      ∙ padded-take (m .bids) (bidLevels r) (s .bids-long) bids-few (and-left _ _ zeros)
+      ap padded (second-part (r .trades) (r .bids) (r .asks) ts bs cs length-ts length-bs length-cs)
+      ∙ padded-take (m .bids) (r .bids) (s .bids-long) (bids-few r level-counts) (and-left _ _ zeros)
 
   same-asks : padded (askPart r (ts ++ (bs ++ cs))) ≡ m .asks
   same-asks =
-      ap padded (third-part (trades r) (bidLevels r) (askLevels r) ts bs cs length-ts length-bs length-cs)
-      ∙ padded-take (m .asks) (askLevels r) (s .asks-long) asks-few (and-right (zeroPairs (drop (bidLevels r) (m .bids))) _ zeros)
+      ap padded (third-part (r .trades) (r .bids) (r .asks) ts bs cs length-ts length-bs length-cs)
+      ∙ padded-take (m .asks) (r .asks) (s .asks-long) (asks-few r level-counts) (and-right (zeroPairs (drop (r .bids) (m .bids))) _ zeros)
 
   abbrev with : Pair → List Pair → List Pair → Quote
   with t b a = record {
@@ -135,7 +131,7 @@ module _ (m : Quote) (s : ShapedQuote m) (levels : sixLevels (quoteValues m) ≡
 
   message-values : quoteOf (m .seq) (quoteValues m) ≡ m
   message-values =
-      quoteOf-parts (m .seq) (m .time) r (m .limit) (m .status) (m .total .0) (usedPairs m) (m .code) (s .code-long)
+      quoteOf-parts (m .seq) (m .time) (m .reveal) (m .limit) (m .status) (m .total .0) (usedPairs m) (m .code) (s .code-long)
       ∙ ap (λ (t : Pair). with t (padded (bidPart r (usedPairs m))) (padded (askPart r (usedPairs m)))) same-trade
       ∙ ap (λ (b : List Pair). with (m .trade) b (padded (askPart r (usedPairs m)))) same-bids
       ∙ ap (λ (a : List Pair). with (m .trade) (m .bids) a) same-asks
@@ -143,31 +139,31 @@ module _ (m : Quote) (s : ShapedQuote m) (levels : sixLevels (quoteValues m) ≡
 -- ---- the numbers of a body give the quote that has them
 module _ (seq k : ℕ) (vs : List ℕ)
     (split : vs ≡ codeOf vs ++ (timeOf vs ∷ revealOf vs ∷ getD vs 8 0 ∷ getD vs 9 0 ∷ getD vs 10 0 ∷ drop 11 vs))
-    (six-codes : length (codeOf vs) ≡ 6) (many : length (drop 11 vs) ≡ 2 * pairCount (revealOf vs)) (levels : sixLevels vs ≡ true) where
-  abbrev q : ℕ
-  q = revealOf vs
+    (six-codes : length (codeOf vs) ≡ 6) (many : length (drop 11 vs) ≡ 2 * pairCount (revealed (revealOf vs))) (levels : sixLevels vs ≡ true) where
+  abbrev q : Reveal
+  q = revealed (revealOf vs)
 
   abbrev ps : List Pair
   ps = pairsOf (drop 11 vs)
 
-  length-ps : length ps ≡ trades q + (bidLevels q + askLevels q)
+  length-ps : length ps ≡ q .trades + (q .bids + q .asks)
   length-ps = length-pairsOf (pairCount q) (drop 11 vs) many
 
-  length-bidPart : length (bidPart q ps) ≡ bidLevels q
-  length-bidPart = length-take-le (bidLevels q) (drop (trades q) ps) (omega (arith, length-drop (trades q) ps, length-ps))
+  length-bidPart : length (bidPart q ps) ≡ q .bids
+  length-bidPart = length-take-le (q .bids) (drop (q .trades) ps) (omega (arith, length-drop (q .trades) ps, length-ps))
 
-  length-askPart : length (askPart q ps) ≡ askLevels q
+  length-askPart : length (askPart q ps) ≡ q .asks
   length-askPart =
-      length-take-le (askLevels q) (drop (bidLevels q) (drop (trades q) ps))
-      (omega (arith, length-drop (bidLevels q) (drop (trades q) ps), length-drop (trades q) ps, length-ps))
+      length-take-le (q .asks) (drop (q .bids) (drop (q .trades) ps))
+      (omega (arith, length-drop (q .bids) (drop (q .trades) ps), length-drop (q .trades) ps, length-ps))
 
   used-read : usedPairs (quoteOf seq vs) ≡ ps
   used-read =
-      ap (λ (l : List Pair). l ++ (take (bidLevels q) (padded (bidPart q ps)) ++ take (askLevels q) (padded (askPart q ps))))
-      (trade-part (trades q) (trades-lt q) ps (omega (arith, length-ps)))
-      ∙ ap (λ (l : List Pair). take (trades q) ps ++ (l ++ take (askLevels q) (padded (askPart q ps)))) (take-padded (bidPart q ps) (bidLevels q) length-bidPart)
-      ∙ ap (λ (l : List Pair). take (trades q) ps ++ (bidPart q ps ++ l)) (take-padded (askPart q ps) (askLevels q) length-askPart)
-      ∙ three-parts (trades q) (bidLevels q) (askLevels q) ps length-ps
+      ap (λ (l : List Pair). l ++ (take (q .bids) (padded (bidPart q ps)) ++ take (q .asks) (padded (askPart q ps))))
+      (trade-part (q .trades) (trades-lt q (revealOf vs) refl) ps (omega (arith, length-ps)))
+      ∙ ap (λ (l : List Pair). take (q .trades) ps ++ (l ++ take (q .asks) (padded (askPart q ps)))) (take-padded (bidPart q ps) (q .bids) length-bidPart)
+      ∙ ap (λ (l : List Pair). take (q .trades) ps ++ (bidPart q ps ++ l)) (take-padded (askPart q ps) (q .asks) length-askPart)
+      ∙ three-parts (q .trades) (q .bids) (q .asks) ps length-ps
 
   pub values-quoteOf : quoteValues (quoteOf seq vs) ≡ vs
   values-quoteOf =
@@ -177,24 +173,24 @@ module _ (seq k : ℕ) (vs : List ℕ)
 
   pub tidy-quoteOf : tidyQuote (quoteOf seq vs) ≡ true
   tidy-quoteOf =
-      and-both (trade-zero (trades q) (trades-lt q) ps)
+      and-both (trade-zero (q .trades) (trades-lt q (revealOf vs) refl) ps)
       (and-both
-      (ap zeroPairs (drop-padded (bidPart q ps) (bidLevels q) length-bidPart) ∙ zero-replicate (sideRoom - length (bidPart q ps)))
-      (ap zeroPairs (drop-padded (askPart q ps) (askLevels q) length-askPart) ∙ zero-replicate (sideRoom - length (askPart q ps))))
+      (ap zeroPairs (drop-padded (bidPart q ps) (q .bids) length-bidPart) ∙ zero-replicate (sideRoom - length (bidPart q ps)))
+      (ap zeroPairs (drop-padded (askPart q ps) (q .asks) length-askPart) ∙ zero-replicate (sideRoom - length (askPart q ps))))
 
   pub shaped-quoteOf : ShapedQuote (quoteOf seq vs)
   shaped-quoteOf = record {
     code-long = six-codes;
-    bids-long = length-padded (bidPart q ps) (bidLevels q) length-bidPart (leb-true (bidLevels q) 5 (and-left _ _ levels));
-    asks-long = length-padded (askPart q ps) (askLevels q) length-askPart (leb-true (askLevels q) 5 (and-right (leb (bidLevels q) 5) _ levels));
+    bids-long = length-padded (bidPart q ps) (q .bids) length-bidPart (bids-few q levels);
+    asks-long = length-padded (askPart q ps) (q .asks) length-askPart (asks-few q levels);
   }
 
 -- ---- of a body that passes its rows
 module _ (b : List ℕ) (o : Bodied six b) where
-  many-numbers : length (drop 11 (valuesOf six b)) ≡ 2 * pairCount (revealOf (valuesOf six b))
+  many-numbers : length (drop 11 (valuesOf six b)) ≡ 2 * pairCount (revealed (revealOf (valuesOf six b)))
   many-numbers =
-      let k = pairCount (getD b 12 0) in
-      length-decode (pairCells k) _ ∙ length-pairCells k ∙ ap (λ (x : ℕ). 2 * pairCount x) (sym (reveal-read k b))
+      let k = pairCount (revealed (getD b 12 0)) in
+      length-decode (pairCells k) _ ∙ length-pairCells k ∙ ap (λ (x : ℕ). 2 * pairCount (revealed x)) (sym (reveal-read k b))
 
 pub quotes-lawful : Lawful sixCodec ShapedQuote
 quotes-lawful = record {
@@ -202,10 +198,10 @@ quotes-lawful = record {
   high = lit≤ tt;
   number-fits = lit< tt;
   version-fits = lit< tt;
-  cells-told = λ m s f. ap (λ (x : ℕ). sixCells (pairCount x)) (reveal-written (pairCount (m .reveal)) (m .time) (m .reveal) (m .limit ∷ m .status ∷ m .total .0 ∷ flat (usedPairs m)) (m .code) (s .code-long));
+  cells-told = λ m s f. ap (λ (x : ℕ). sixCells (pairCount (revealed x))) (reveal-written (pairCount (revealed (m .reveal))) (m .time) (m .reveal) (m .limit ∷ m .status ∷ m .total .0 ∷ flat (usedPairs m)) (m .code) (s .code-long));
   message-values = λ m s l. message-values m s (legal-levels sixCodec m l) (legal-tidy sixCodec m l);
   seq-message = λ n vs. refl;
-  cells-message = λ n b o. ap (λ (x : ℕ). sixCells (pairCount x)) (reveal-read (pairCount (getD b 12 0)) b);
+  cells-message = λ n b o. ap (λ (x : ℕ). sixCells (pairCount (revealed x))) (reveal-read (pairCount (revealed (getD b 12 0))) b);
   values-message = λ n b o. values-quoteOf n 0 (valuesOf six b) refl refl (many-numbers b o) (o .levelled);
   tidy-message = λ n b o. tidy-quoteOf n 0 (valuesOf six b) refl refl (many-numbers b o) (o .levelled);
   shaped-message = λ n b o. shaped-quoteOf n 0 (valuesOf six b) refl refl (many-numbers b o) (o .levelled);

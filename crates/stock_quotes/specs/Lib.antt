@@ -1,2 +1,2 @@
+pub mod Reveal
 pub mod Quotes
-pub mod Steps

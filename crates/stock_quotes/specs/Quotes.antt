@@ -1,32 +1,21 @@
 -- Format six, version 04, 32 to 131 bytes: code 6, time 6, reveal, limit and status byte, total quantity 4, then pairs of price 5 and quantity 4.
-use Prim.Native.Nat.{ℕ, zero, suc, _+_, _-_, _/_, _%_}
+use Prim.Native.Nat.{ℕ, zero, suc, _+_, _-_}
 use mathlib.Core.Path.{_≡_}
 use mathlib.Core.Bool.{Bool, cond, _&&_}
 use mathlib.Core.List.{List, [], _∷_, _++_}
 use lib.ListN.{length, getD, take, drop, replicate}
-use lib.Dec.{eqb, leb}
+use lib.Dec.{eqb}
 use Rattle.amounts.specs.Amounts.{asPrice, asQuantity}
 use Rattle.amounts.specs.declared.Pair.{Pair}
-use Rattle.layout.specs.Cells.{Cell, raw, digits, decode}
+use Rattle.layout.specs.Cells.{Cell, raw, digits, size, decode}
 use Rattle.layout.specs.Rows.{firstFail}
 use Rattle.stock_frame.specs.Format.{Format, valuesOf, bodyRows, bodyAnswer}
 use Rattle.codes_times.specs.Times.{timeOfDay, nines, every, codeRight, zeroCode}
 use Rattle.stock_frame.specs.Codec.{Codec}
-use Rattle.stock_quotes.specs.declared.quote.Quote.{Quote}
-use Rattle.stock_quotes.specs.declared.quote.QuoteReading.{QuoteReading}
-
--- the reveal byte: bit 7, a trade pair; bits 6-4, bid levels; bits 3-1, ask levels; bit 0 is handed on
-abbrev pub trades : ℕ → ℕ
-trades reveal = reveal / 128 % 2
-
-abbrev pub bidLevels : ℕ → ℕ
-bidLevels reveal = reveal / 16 % 8
-
-abbrev pub askLevels : ℕ → ℕ
-askLevels reveal = reveal / 2 % 8
-
-abbrev pub pairCount : ℕ → ℕ
-pairCount reveal = trades reveal + (bidLevels reveal + askLevels reveal)
+use Rattle.stock_quotes.specs.declared.Quote.{Quote}
+use Rattle.stock_quotes.specs.declared.QuoteReading.{QuoteReading}
+use Rattle.stock_quotes.specs.declared.Reveal.{Reveal}
+use Rattle.stock_quotes.specs.Reveal.{revealed, sideRoom, levelsRight, pairCount}
 
 -- n pairs of a price and a quantity
 unfoldable pub pairCells : ℕ → List Cell
@@ -36,6 +25,10 @@ pairCells (suc n) = digits 9 ∷ digits 8 ∷ pairCells n
 -- code, time, reveal, limit, status, total quantity, pairs
 abbrev pub sixCells : ℕ → List Cell
 sixCells n = raw ∷ raw ∷ raw ∷ raw ∷ raw ∷ raw ∷ digits 12 ∷ raw ∷ raw ∷ raw ∷ digits 8 ∷ pairCells n
+
+-- check 9: the length that a reveal byte dictates
+abbrev pub bodyLength : ℕ → ℕ
+bodyLength reveal = size (sixCells (pairCount (revealed reveal)))
 
 -- the numbers in a body by their names
 abbrev pub codeOf : List ℕ → List ℕ
@@ -47,15 +40,18 @@ timeOf vs = getD vs 6 0
 abbrev pub revealOf : List ℕ → ℕ
 revealOf vs = getD vs 7 0
 
--- row 10: a level count is at most 5
+-- check 10: what the reveal byte shows
 abbrev pub sixLevels : List ℕ → Bool
-sixLevels vs = leb (bidLevels (revealOf vs)) 5 && leb (askLevels (revealOf vs)) 5
+sixLevels vs = levelsRight (revealed (revealOf vs))
 
--- row 12: all nines stand exactly with code `000000`, the day's last frame; else a time of day
+-- check 12: all nines stand exactly with code `000000`, the day's last frame; else a time of day
+abbrev pub quoteTimed : List ℕ → ℕ → Bool
+quoteTimed code time = cond (zeroCode code) (eqb time (nines 6)) (timeOfDay 6 time)
+
 abbrev pub sixTimed : List ℕ → Bool
-sixTimed vs = cond (zeroCode (codeOf vs)) (eqb (timeOf vs) (nines 6)) (timeOfDay 6 (timeOf vs))
+sixTimed vs = quoteTimed (codeOf vs) (timeOf vs)
 
--- row 13: the code's bytes
+-- check 13: the code's bytes
 abbrev pub sixRuled : List ℕ → Bool
 sixRuled vs = codeRight (codeOf vs)
 
@@ -69,7 +65,7 @@ six = record {
   version = 4;
   least = 32;
   most = 131;
-  cells = λ b. sixCells (pairCount (getD b revealPlace 0));
+  cells = λ b. sixCells (pairCount (revealed (getD b revealPlace 0)));
   levels = sixLevels;
   timed = sixTimed;
   ruled = sixRuled;
@@ -96,32 +92,29 @@ abbrev pub pairsIn : ℕ → List ℕ → List Pair
 pairsIn n bs = pairsOf (decode (pairCells n) bs)
 
 -- the levels of a side, best first, and zeros up to its room
-abbrev pub sideRoom : ℕ
-sideRoom = 5
-
 abbrev pub padded : List Pair → List Pair
 padded l = l ++ replicate (sideRoom - length l) noPair
 
--- the pairs of a reveal byte's three parts, in the order trade, bids, asks
-abbrev pub tradePart : ℕ → List Pair → List Pair
-tradePart reveal ps = take (trades reveal) ps
+-- the three parts of a frame's pairs, in the order trade, bids, asks
+abbrev pub tradePart : Reveal → List Pair → List Pair
+tradePart r ps = take (r .trades) ps
 
-abbrev pub bidPart : ℕ → List Pair → List Pair
-bidPart reveal ps = take (bidLevels reveal) (drop (trades reveal) ps)
+abbrev pub bidPart : Reveal → List Pair → List Pair
+bidPart r ps = take (r .bids) (drop (r .trades) ps)
 
-abbrev pub askPart : ℕ → List Pair → List Pair
-askPart reveal ps = take (askLevels reveal) (drop (bidLevels reveal) (drop (trades reveal) ps))
+abbrev pub askPart : Reveal → List Pair → List Pair
+askPart r ps = take (r .asks) (drop (r .bids) (drop (r .trades) ps))
 
 -- the message
 abbrev pub quoteOf : ℕ → List ℕ → Quote
 quoteOf seq vs =
-    let r = revealOf vs in
+    let r = revealed (revealOf vs) in
     let ps = pairsOf (drop 11 vs) in
     record {
       seq = seq;
       code = codeOf vs;
       time = timeOf vs;
-      reveal = r;
+      reveal = revealOf vs;
       limit = getD vs 8 0;
       status = getD vs 9 0;
       total = asQuantity (getD vs 10 0);
@@ -133,8 +126,8 @@ quoteOf seq vs =
 -- the pairs that a message uses, and its numbers
 abbrev pub usedPairs : Quote → List Pair
 usedPairs m =
-    let r = m .reveal in
-    take (trades r) (m .trade ∷ []) ++ (take (bidLevels r) (m .bids) ++ take (askLevels r) (m .asks))
+    let r = revealed (m .reveal) in
+    take (r .trades) (m .trade ∷ []) ++ (take (r .bids) (m .bids) ++ take (r .asks) (m .asks))
 
 abbrev pub quoteValues : Quote → List ℕ
 quoteValues m = m .code ++ (m .time ∷ m .reveal ∷ m .limit ∷ m .status ∷ m .total .0 ∷ flat (usedPairs m))
@@ -145,15 +138,15 @@ zeroPairs ps = every (eqb 0) (flat ps)
 
 abbrev pub tidyQuote : Quote → Bool
 tidyQuote m =
-    let r = m .reveal in
-    zeroPairs (drop (trades r) (m .trade ∷ []))
-    && (zeroPairs (drop (bidLevels r) (m .bids)) && zeroPairs (drop (askLevels r) (m .asks)))
+    let r = revealed (m .reveal) in
+    zeroPairs (drop (r .trades) (m .trade ∷ []))
+    && (zeroPairs (drop (r .bids) (m .bids)) && zeroPairs (drop (r .asks) (m .asks)))
 
 abbrev pub sixCodec : Codec Quote
 sixCodec = record {
   form = six;
   seq = λ m. m .seq;
-  cells = λ m. sixCells (pairCount (m .reveal));
+  cells = λ m. sixCells (pairCount (revealed (m .reveal)));
   values = quoteValues;
   tidy = tidyQuote;
   message = quoteOf;

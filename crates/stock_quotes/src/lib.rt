@@ -1,4 +1,124 @@
-// Format six: live quotes.
-pub mod quote;
-pub mod reading;
-pub mod writing;
+// Format six, live quotes: the message, what its reveal byte shows, and the rules that reading and writing share.
+ghost use mathlib.Core.Path.{_≡_};
+ghost use Rattle.stock_quotes.specs.Reveal.{revealed, levelsRight};
+ghost use Rattle.stock_quotes.specs.Quotes.{bodyLength, quoteTimed, noPair, noQuote};
+use amounts::Pair;
+use amounts::Price;
+use amounts::Quantity;
+use answers::Answer;
+
+// A stock's quote. Its own reveal byte says which of the trade, the bids and the asks are used; the others are zero.
+pub struct Quote {
+    pub seq: u32,
+    pub code: [u8; 6],
+    // HHMMSS and six digits of fraction; all nines in the day's last frame
+    pub time: u64,
+    pub reveal: u8,
+    pub limit: u8,
+    pub status: u8,
+    pub total: Quantity,
+    pub trade: Pair,
+    // best first
+    pub bids: [Pair; 5],
+    pub asks: [Pair; 5],
+}
+
+// What reading a body finds; the quote is the empty one where the answer is a refusal.
+pub struct QuoteReading {
+    pub answer: Answer,
+    pub quote: Quote,
+}
+
+// What a reveal byte shows: how many trades, 0 or 1, and how many levels of each side.
+pub struct Reveal {
+    pub trades: usize,
+    pub bids: usize,
+    pub asks: usize,
+}
+
+impl Reveal {
+    // The most levels of a side.
+    pub const MOST_LEVELS: usize = 5;
+
+    // What the bits of the byte say.
+    pub fn from_byte(byte: u8) -> Reveal
+        ensures { λ r. ⌜ r ≡ revealed byte ⌝ }
+    {
+        Reveal {
+            trades: (byte / 128 % 2) as usize,
+            bids: (byte / 16 % 8) as usize,
+            asks: (byte / 2 % 8) as usize,
+        }
+    }
+
+    // Check 10: no side has more levels than it may.
+    pub fn levels_right(self) -> bool
+        ensures { λ r. ⌜ r ≡ levelsRight self ⌝ }
+    {
+        if Reveal::MOST_LEVELS < self.bids {
+            return false;
+        }
+        self.asks <= Reveal::MOST_LEVELS
+    }
+}
+
+// The bytes before a body's pairs, and those of a pair.
+const FIXED: usize = 19;
+
+const PAIR: usize = 9;
+
+// The largest number of twelve digits.
+const ALL_NINES: u64 = 999_999_999_999;
+
+// The fractions of a second.
+const FRACTIONS: u64 = 1_000_000;
+
+// Check 9: the length of the body that a reveal byte dictates.
+pub fn body_length(reveal: u8) -> usize
+    ensures { λ r. ⌜ r ≡ bodyLength reveal ⌝ }
+{
+    let shown = Reveal::from_byte(reveal);
+    FIXED + PAIR * (shown.trades + (shown.bids + shown.asks))
+}
+
+// The pair of an unused place.
+pub fn no_pair() -> Pair
+    ensures { λ r. ⌜ r ≡ noPair ⌝ }
+{
+    Pair {
+        price: Price(0),
+        quantity: Quantity(0),
+    }
+}
+
+// The empty quote, which stands beside a refusal.
+pub fn empty() -> Quote
+    ensures { λ r. ⌜ r ≡ noQuote ⌝ }
+{
+    let none = no_pair();
+    Quote {
+        seq: 0,
+        code: [0; 6],
+        time: 0,
+        reveal: 0,
+        limit: 0,
+        status: 0,
+        total: Quantity(0),
+        trade: none,
+        bids: [none; 5],
+        asks: [none; 5],
+    }
+}
+
+// Check 12: a quote's time is all nines exactly with the code `000000`, else a time of day.
+pub fn timed(code: &[u8], time: u64) -> bool
+    ensures { λ r. ⌜ r ≡ quoteTimed (now (code .entry)) time ⌝ }
+{
+    if ALL_NINES < time {
+        return false;
+    }
+    if codes_times::zero_code(code) {
+        return time == ALL_NINES;
+    }
+    codes_times::time_of_day((time / FRACTIONS) as u32)
+}

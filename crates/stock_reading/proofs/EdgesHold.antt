@@ -1,12 +1,13 @@
 -- The starred edges hold, by computation.
 use mathlib.Core.Path.{refl}
+use Rattle.stock_quotes.specs.Reveal.{levelsRight}
 use Rattle.stock_quotes.specs.Quotes.{pairCells}
 use Rattle.stock_prices.specs.Prices.{slotsCells}
 use Rattle.stock_reading.specs.Reading.{formatOf, rows, answerOf, messageBy}
 use Rattle.stock_reading.specs.Edges.{Edges}
 
 pub edges-hold : Edges
-unfolding formatOf rows answerOf messageBy pairCells slotsCells
+unfolding formatOf rows answerOf messageBy levelsRight pairCells slotsCells
 edges-hold = record {
   no-bytes = refl;
   two-bytes = refl;

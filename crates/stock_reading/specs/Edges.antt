@@ -6,7 +6,7 @@ use lib.ListN.{take, replicate}
 use Rattle.stock_frame.specs.Writing.{frameAround}
 use Rattle.answers.specs.declared.Answer.the-variants.{Accepted, NoFrame, Refused}
 use Rattle.stock_notices.specs.Notices.{fiveCodec, noNotice}
-use Rattle.stock_quotes.specs.Quotes.{trades, bidLevels, askLevels, pairCount}
+use Rattle.stock_quotes.specs.Reveal.{revealed, pairCount}
 use Rattle.stock_halts.specs.Halts.{nineteenCodec, noHalt}
 use Rattle.stock_halts.specs.declared.Event.the-variants.{Halted}
 use Rattle.stock_halts.specs.declared.Resume.the-variants.{Open}
@@ -42,9 +42,9 @@ pub record Edges : Type 0 where
   pub halt-accepted : answerOf halted ≡ Accepted (record { format = 19; seq = 1; length = 26 })
   pub halt-means : messageBy nineteenCodec noHalt halted
       ≡ record { seq = 1; code = 0x31 ∷ 0x32 ∷ 0x33 ∷ 0x34 ∷ 0x20 ∷ 0x20 ∷ []; event = Halted 100500 Open; state = Instant }
-  pub reveal-A2-counts : trades 0xA2 ∷ bidLevels 0xA2 ∷ askLevels 0xA2 ∷ pairCount 0xA2 ∷ [] ≡ 1 ∷ 2 ∷ 1 ∷ 4 ∷ []
+  pub reveal-A2-counts : revealed 0xA2 .trades ∷ revealed 0xA2 .bids ∷ revealed 0xA2 .asks ∷ pairCount (revealed 0xA2) ∷ [] ≡ 1 ∷ 2 ∷ 1 ∷ 4 ∷ []
   pub reveal-A2 : answerOf (quote 0xA2 36) ≡ Accepted (record { format = 6; seq = 1; length = 68 })
-  pub reveal-DA-counts : pairCount 0xDA ≡ 11
+  pub reveal-DA-counts : pairCount (revealed 0xDA) ≡ 11
   pub reveal-DA : answerOf (quote 0xDA 99) ≡ Accepted (record { format = 6; seq = 1; length = 131 })
   pub reveal-00 : answerOf (quote 0x00 0) ≡ Accepted (record { format = 6; seq = 1; length = 32 })
   pub reveal-60 : answerOf (quote 0x60 54) ≡ Refused 10 86

@@ -14,7 +14,7 @@ use Rattle.answers.specs.declared.Answer.{Answer}
 use Rattle.stock_notices.specs.Notices.{five, fiveCodec, noNotice}
 use Rattle.stock_notices.specs.declared.NoticeReading.{NoticeReading}
 use Rattle.stock_quotes.specs.Quotes.{six, sixCodec, noQuote}
-use Rattle.stock_quotes.specs.declared.quote.QuoteReading.{QuoteReading}
+use Rattle.stock_quotes.specs.declared.QuoteReading.{QuoteReading}
 use Rattle.stock_prices.specs.Prices.{twelve, twelveCodec, noPrices}
 use Rattle.stock_prices.specs.declared.PricesReading.{PricesReading}
 use Rattle.stock_halts.specs.Halts.{nineteen, nineteenCodec, noHalt}

@@ -156,7 +156,7 @@ pub fn read_quote(line: &[u8], at: usize) -> QuoteReading
 {
     match find_kind(line, at, SIX) {
         Found::None(answer) => {
-            let quote = stock_quotes::reading::empty();
+            let quote = stock_quotes::empty();
             QuoteReading { answer, quote }
         }
         Found::At(w) => {

@@ -2,7 +2,7 @@
 use mathlib.Core.Path.{sym, ap, _∙_}
 use borrow.Author.Tests.{not-true, not-false}
 use lib.ListN.{drop}
-use Rattle.stock_quotes.specs.declared.quote.QuoteReading.{QuoteReading}
+use Rattle.stock_quotes.specs.declared.QuoteReading.{QuoteReading}
 use Rattle.stock_reading.specs.Reading.{quoteAt}
 use Rattle.c_quotes.specs.Quotes.{quoteBytes, quoteAmounts}
 use Rattle.c_outcomes.specs.Outcomes.{readOutcome}

@@ -4,7 +4,7 @@ use mathlib.Core.List.{List, _∷_, _++_}
 use lib.ListN.{length}
 use Rattle.amounts.specs.declared.Pair.{Pair}
 use Rattle.stock_quotes.specs.Quotes.{noPair, flat}
-use Rattle.stock_quotes.proofs.LegalLaws.{length-mapped}
+use Rattle.stock_quotes.proofs.PairLaws.{length-mapped}
 use Rattle.c_outcomes.proofs.ListLaws.{listed-all}
 use borrow.Author.Needs.{needs}
 use Rattle.c_quotes.proofs.numbers.quote_amounts.Statement.{statement}

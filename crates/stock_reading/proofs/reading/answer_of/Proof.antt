@@ -3,7 +3,7 @@ use mathlib.Core.Path.{ap, _∙_}
 use Rattle.stock_notices.specs.Notices.{five, noticeReading}
 use Rattle.stock_notices.specs.declared.NoticeReading.{NoticeReading}
 use Rattle.stock_quotes.specs.Quotes.{six, quoteReading}
-use Rattle.stock_quotes.specs.declared.quote.QuoteReading.{QuoteReading}
+use Rattle.stock_quotes.specs.declared.QuoteReading.{QuoteReading}
 use Rattle.stock_prices.specs.Prices.{twelve, pricesReading}
 use Rattle.stock_prices.specs.declared.PricesReading.{PricesReading}
 use Rattle.stock_halts.specs.Halts.{nineteen, haltReading}

@@ -1,0 +1,4 @@
+pub mod SideLaws
+pub mod ReadLaws
+pub mod BodyLaws
+pub mod Determined

@@ -1,0 +1,4 @@
+pub mod PartLaws
+pub mod LegalLaws
+pub mod WriteLaws
+pub mod Determined
