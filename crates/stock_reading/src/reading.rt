@@ -13,8 +13,8 @@ use stock_notices::NoticeReading;
 use stock_notices_read::read as notice_in;
 use stock_prices::PricesReading;
 use stock_prices_read::read as prices_in;
-use stock_quotes::quote::QuoteReading;
-use stock_quotes::reading::read as quote_in;
+use stock_quotes::QuoteReading;
+use stock_quotes_read::read as quote_in;
 
 // Business 01 with a format and its version, as six digits.
 const FIVE: u32 = 10501;
