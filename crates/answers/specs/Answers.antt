@@ -1,4 +1,4 @@
--- The answers by the paper's numbers.
+-- The answers by their answer numbers.
 use Prim.Native.Nat.{ℕ}
 use mathlib.Core.Bool.{cond}
 use mathlib.Core.List.{List, [], _∷_}

@@ -1,2 +1,2 @@
--- The answers by the paper's numbers: definitions that the contracts cite.
+-- The answers by their answer numbers: definitions that the contracts cite.
 pub mod Answers

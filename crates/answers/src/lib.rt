@@ -20,7 +20,7 @@ pub enum Answer {
 }
 
 impl Answer {
-    // The paper's number.
+    // The answer number.
     pub fn number(self) -> u8
         ensures { λ r. ⌜ r ≡ answerNumber self ⌝ }
     {

@@ -9,13 +9,13 @@ use lib.Dec.{eqb, leb}
 use borrow.Author.Tests.{eqb-true, ne-eqb, leb-true, leb-false}
 use Rattle.digits.specs.Packed.{goodField}
 use Rattle.digits.proofs.Bools.{and-right}
-use Rattle.layout.specs.Rows.{Row, must, firstFail}
+use Rattle.layout.specs.Checks.{Check, must, firstFail}
 use Rattle.answers.specs.Answers.{named, answerNumber, answerLength}
 use Rattle.stock_frame.specs.Outline.{lengthBytes, lengthOf, own, format, number, lengthRight}
 use Rattle.answers.specs.declared.Frame.{Frame}
 use Rattle.answers.specs.declared.Answer.{Answer}
 use Rattle.answers.specs.declared.Answer.the-variants.{Accepted, NoFrame, Refused}
-use Rattle.stock_reading.specs.Reading.{rows, answerOf}
+use Rattle.stock_reading.specs.Reading.{checks, answerOf}
 use Rattle.stock_frame.proofs.FigureLaws.{number-named, fails-at-most}
 use Rattle.stock_reading.proofs.HeaderLaws.{format-small}
 use Rattle.stock_reading.proofs.Trips.{answer-number, answer-says}
@@ -27,9 +27,9 @@ pub outcome-parts : (a f l s : ℕ) → a < 256 → f < 256 → l < 65536
     → (answerPart (outcome a f l s) ≡ a) × (formatPart (outcome a f l s) ≡ f) × (lengthPart (outcome a f l s) ≡ l) × (seqPart (outcome a f l s) ≡ s)
 outcome-parts a f l s ha hf hl = (omega arith, omega arith, omega arith, omega arith)
 
--- ---- the rows of a reading
--- none of 1 to 5 is answered only behind the four rows on the length
-right-before : (n : ℕ) (a b c d : Bool) (rs : List Row) → firstFail (must 2 a ∷ must 1 b ∷ must 2 c ∷ must 3 d ∷ rs) ≡ n → (1 ≤ n → n ≤ 5 → ⊥) → d ≡ true
+-- ---- the checks of a reading
+-- none of 1 to 5 is answered only behind the four checks on the length
+right-before : (n : ℕ) (a b c d : Bool) (rs : List Check) → firstFail (must 2 a ∷ must 1 b ∷ must 2 c ∷ must 3 d ∷ rs) ≡ n → (1 ≤ n → n ≤ 5 → ⊥) → d ≡ true
 right-before n true true true true rs e h = refl
 right-before n true true true false rs e h = absurd (h (omega arith) (omega arith))
 right-before n true true false d rs e h = absurd (h (omega arith) (omega arith))
@@ -113,19 +113,19 @@ read-past (Refused n l) = refl
 
 module _ (t : List ℕ) where
   -- the numbers of the table are at most 13
-  rows-small : firstFail (rows t) ≤ 13
-  unfolding rows
-  rows-small = fails-at-most 13 (rows t) refl
+  checks-small : firstFail (checks t) ≤ 13
+  unfolding checks
+  checks-small = fails-at-most 13 (checks t) refl
 
   -- where none fails the format is one of the list
-  format-low : firstFail (rows t) ≡ 0 → format (own t) < 256
+  format-low : firstFail (checks t) ≡ 0 → format (own t) < 256
   format-low z = omega (arith, format-small (format (own t)) (answer-says t .format-is (answer-number t ∙ z)))
 
   -- where none of 1 to 5 is answered the length is right
-  length-told : (1 ≤ firstFail (rows t) → firstFail (rows t) ≤ 5 → ⊥) → lengthOf t ≤ 1024
-  unfolding rows
+  length-told : (1 ≤ firstFail (checks t) → firstFail (checks t) ≤ 5 → ⊥) → lengthOf t ≤ 1024
+  unfolding checks
   length-told h =
-      let right = right-before (firstFail (rows t)) (leb 1 (length t)) (eqb (getD t 0 0) 27) (leb 3 (length t)) (lengthRight t) (drop 4 (rows t)) refl h in
+      let right = right-before (firstFail (checks t)) (leb 1 (length t)) (eqb (getD t 0 0) 27) (leb 3 (length t)) (lengthRight t) (drop 4 (checks t)) refl h in
       leb-true (lengthOf t) 1024 (and-right (leb 14 (lengthOf t)) _ (and-right (goodField 4 (lengthBytes t)) _ right))
 
   abbrev frame : Frame
@@ -134,14 +134,14 @@ module _ (t : List ℕ) where
   -- the length beside the answer to any bytes is at most 1,024
   pub answer-short : answerLength (answerOf t) ≤ 1024
   unfolding answerOf
-  answer-short = length-small (firstFail (rows t)) frame length-told
+  answer-short = length-small (firstFail (checks t)) frame length-told
 
   -- the outcome of the answer to any bytes, with the bytes to go past, tells both
   pub past-back : (bytes : ℕ) → bytes < 65536 → ((1 ≤ answerNumber (answerOf t) → answerNumber (answerOf t) ≤ 5 → ⊥) → bytes ≡ answerLength (answerOf t))
       → let x = pastOutcome (answerOf t) bytes in (answerIn x ≡ answerOf t) × (lengthPart x ≡ bytes)
   unfolding answerOf
   past-back bytes small same =
-      told (firstFail (rows t)) bytes frame rows-small small format-low
+      told (firstFail (checks t)) bytes frame checks-small small format-low
       (λ h. same (λ u v. h (omega (arith, u, answer-number t)) (omega (arith, v, answer-number t))))
 
   -- a reading's outcome tells the answer
@@ -163,4 +163,4 @@ accepted-told t f e = frame-in (readOutcome (answerOf t)) f (reading-back t ∙ 
 -- a reading's outcome has a format exactly where a frame of the format is accepted, and so where lent memory is filled
 pub format-told : (t : List ℕ) (format : ℕ) → 1 ≤ format → isOf format (answerOf t) ≡ eqb (formatPart (readOutcome (answerOf t))) format
 unfolding answerOf
-format-told t k one = format-beside (firstFail (rows t)) (frame t) k (rows-small t) (format-low t) one
+format-told t k one = format-beside (firstFail (checks t)) (frame t) k (checks-small t) (format-low t) one

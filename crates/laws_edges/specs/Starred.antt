@@ -1,4 +1,4 @@
--- The paper's starred edges as one statement: those of frames, and that of the ledger.
+-- The starred edges of the owner's paper as one statement: those of frames, and that of the ledger.
 use Rattle.stock_reading.specs.Edges.{Edges as Frames}
 use Rattle.ledger.specs.Edges.{Edges as Ledger}
 

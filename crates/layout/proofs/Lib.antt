@@ -1,7 +1,7 @@
 -- The laws that the proofs cite, and the theorems that belong to no one function.
 pub mod CellLaws
 pub mod AppendLaws
-pub mod RowLaws
+pub mod CheckLaws
 pub mod WholeLaws
 pub mod RawLaws
 pub mod PutLaws

@@ -1,4 +1,4 @@
 -- Layouts, checks in order, and bytes put as they are: definitions that the contracts cite.
 pub mod Cells
-pub mod Rows
+pub mod Checks
 pub mod Bytes

@@ -1,4 +1,4 @@
--- The starred edge of the paper that concerns the ledger: arrivals 5, 2, 5.
+-- The starred edge of the owner's paper that concerns the ledger: arrivals 5, 2, 5.
 use Prim.Native.Nat.{ℕ}
 use mathlib.Core.Path.{_≡_}
 use mathlib.Core.List.{List, [], _∷_}

@@ -1,4 +1,4 @@
--- The paper's example of a listing: two bytes of noise, then a notice without text.
+-- The rules' example of a listing: two bytes of noise, then a notice without text.
 use Prim.Native.Nat.{ℕ}
 use mathlib.Core.List.{List, [], _∷_}
 

@@ -11,7 +11,7 @@ use Rattle.digits.specs.Packed.{packed}
 use Rattle.digits.specs.Fields.{putAt}
 use Rattle.layout.proofs.PutLaws.{put-behind}
 use Rattle.layout.specs.Cells.{encode}
-use Rattle.words.specs.Check.{xorOf}
+use Rattle.words.specs.Xor.{xorOf}
 use Rattle.stock_frame.specs.Outline.{headCells}
 use Rattle.stock_frame.specs.Format.{around}
 use Rattle.stock_frame.specs.Writing.{sealed, headValues, closable, closeAnswer, closedOver}

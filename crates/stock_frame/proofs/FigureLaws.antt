@@ -8,12 +8,12 @@ use lib.ListN.{length}
 use lib.Dec.{eqb, leb}
 use borrow.Author.Tests.{eqb-true, le-leb, lt-leb, leb-true}
 use Rattle.digits.proofs.Bools.{and-left, and-right}
-use Rattle.layout.specs.Rows.{Row, must, firstFail}
+use Rattle.layout.specs.Checks.{Check, must, firstFail}
 use Rattle.answers.specs.Answers.{named, answerNumber, answerValues}
 use Rattle.answers.specs.declared.Frame.{Frame}
 use Rattle.answers.specs.declared.Answer.the-variants.{Accepted, NoFrame, Refused}
 use Rattle.answers.specs.declared.Written.the-variants.{Done, Illegal, NoRoom}
-use Rattle.stock_frame.specs.Outline.{lengthOf, own, headOf, outlineRows, outlineOf}
+use Rattle.stock_frame.specs.Outline.{lengthOf, own, headOf, outlineChecks, outlineOf}
 use Rattle.stock_frame.specs.Writing.{writeAnswer, closable, closeAnswer}
 use Rattle.stock_frame.specs.Figures.{outlineNumber, outlineValues, beside, OutlineSays, WriteSays}
 use Rattle.stock_frame.specs.declared.head.Outline.the-variants.{Whole, Not}
@@ -38,11 +38,11 @@ values-named n f = go (eqb n 0) (leb n 5)
 
 -- ---- the numbers of a list of checks
 -- every check's number is at most k
-abbrev pub atMost : ℕ → List Row → Bool
+abbrev pub atMost : ℕ → List Check → Bool
 atMost k [] = true
 atMost k (must n t ∷ checks) = leb n k && atMost k checks
 
-pub fails-at-most : (k : ℕ) (checks : List Row) → atMost k checks ≡ true → firstFail checks ≤ k
+pub fails-at-most : (k : ℕ) (checks : List Check) → atMost k checks ≡ true → firstFail checks ≤ k
 fails-at-most k [] h = omega arith
 fails-at-most k (must n true ∷ checks) h = fails-at-most k checks (and-right (leb n k) _ h)
 fails-at-most k (must n false ∷ checks) h = leb-true n k (and-left _ _ h)
@@ -50,7 +50,7 @@ fails-at-most k (must n false ∷ checks) h = leb-true n k (and-left _ _ h)
 -- ---- an outline
 module _ (t : List ℕ) where
   abbrev n : ℕ
-  n = firstFail (outlineRows t)
+  n = firstFail (outlineChecks t)
 
   abbrev all : List ℕ
   all = headOf (own t) .kind ∷ headOf (own t) .seq ∷ headOf (own t) .length ∷ []
@@ -70,7 +70,7 @@ module _ (t : List ℕ) where
   pub outline-says : OutlineSays t
   outline-says = record {
     first = outline-told .0;
-    at-most = rw (outline-told .0) (fails-at-most 6 (outlineRows t) refl);
+    at-most = rw (outline-told .0) (fails-at-most 6 (outlineChecks t) refl);
     values = outline-told .1 ∙ ap (λ (k : ℕ). beside k all (lengthOf t)) (sym (outline-told .0));
   }
 

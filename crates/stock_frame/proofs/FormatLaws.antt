@@ -1,4 +1,4 @@
--- A body written is read, and a body that passes its rows is one that was written so.
+-- A body written is read, and a body that passes its checks is one that was written so.
 use Prim.Native.Nat.{ℕ, _+_, _≤_}
 use mathlib.Core.Path.{_≡_, sym, ap, _∙_}
 use mathlib.Core.Bool.{true}
@@ -9,11 +9,11 @@ use lib.Dec.{eqb, leb}
 use borrow.Author.Tests.{eq-eqb, eqb-true, leb-true}
 use Rattle.digits.proofs.TestLaws.{holds}
 use Rattle.layout.specs.Cells.{Cell, size, goodCells, decode, fits, encode}
-use Rattle.layout.specs.Rows.{firstFail}
-use Rattle.stock_frame.specs.Format.{Format, valuesOf, around, ranged, bodyRows}
+use Rattle.layout.specs.Checks.{firstFail}
+use Rattle.stock_frame.specs.Format.{Format, valuesOf, around, ranged, bodyChecks}
 pub use Rattle.stock_frame.specs.Reads.{Bodied}
 use Rattle.layout.proofs.CellLaws.{length-encode, good-encode, decode-encode, encode-decode, fits-decode}
-use Rattle.layout.proofs.RowLaws.{row-holds, rows-after}
+use Rattle.layout.proofs.CheckLaws.{check-holds, checks-after}
 
 -- a body's length is in the format's range
 pub range-bounds : (F : Format) (n : ℕ) → ranged F n ≡ true → (F .least ≤ around + n) × (around + n ≤ F .most)
@@ -21,26 +21,26 @@ range-bounds F n r =
     let tests = leb (F .least) (around + n) ∷ leb (around + n) (F .most) ∷ [] in
     (leb-true (F .least) (around + n) (holds tests r 0), leb-true (around + n) (F .most) (holds tests r 1))
 
--- ---- the rows by their names
+-- ---- the checks by their names
 module _ (F : Format) (b : List ℕ) where
-  pub bodied-passes : Bodied F b → firstFail (bodyRows F b) ≡ 0
+  pub bodied-passes : Bodied F b → firstFail (bodyChecks F b) ≡ 0
   bodied-passes o = rw (o .within-range, o .levelled, o .sized, o .good-digits, o .good-times, o .good-fields)
 
-  pub passes-bodied : firstFail (bodyRows F b) ≡ 0 → Bodied F b
+  pub passes-bodied : firstFail (bodyChecks F b) ≡ 0 → Bodied F b
   passes-bodied p =
-      let rows = bodyRows F b in
-      let p1 = rows-after 8 (ranged F (length b)) (drop 1 rows) p in
-      let p2 = rows-after 9 (F .levels (valuesOf F b)) (drop 2 rows) p1 in
-      let p3 = rows-after 8 (eqb (size (F .cells b)) (length b)) (drop 3 rows) p2 in
-      let p4 = rows-after 10 (goodCells (F .cells b) b) (drop 4 rows) p3 in
-      let p5 = rows-after 11 (F .timed (valuesOf F b)) (drop 5 rows) p4 in
+      let checks = bodyChecks F b in
+      let p1 = checks-after 8 (ranged F (length b)) (drop 1 checks) p in
+      let p2 = checks-after 9 (F .levels (valuesOf F b)) (drop 2 checks) p1 in
+      let p3 = checks-after 8 (eqb (size (F .cells b)) (length b)) (drop 3 checks) p2 in
+      let p4 = checks-after 10 (goodCells (F .cells b) b) (drop 4 checks) p3 in
+      let p5 = checks-after 11 (F .timed (valuesOf F b)) (drop 5 checks) p4 in
       record {
-        within-range = row-holds 8 (ranged F (length b)) (drop 1 rows) p;
-        levelled = row-holds 9 (F .levels (valuesOf F b)) (drop 2 rows) p1;
-        sized = row-holds 8 (eqb (size (F .cells b)) (length b)) (drop 3 rows) p2;
-        good-digits = row-holds 10 (goodCells (F .cells b) b) (drop 4 rows) p3;
-        good-times = row-holds 11 (F .timed (valuesOf F b)) (drop 5 rows) p4;
-        good-fields = row-holds 12 (F .ruled (valuesOf F b)) [] p5;
+        within-range = check-holds 8 (ranged F (length b)) (drop 1 checks) p;
+        levelled = check-holds 9 (F .levels (valuesOf F b)) (drop 2 checks) p1;
+        sized = check-holds 8 (eqb (size (F .cells b)) (length b)) (drop 3 checks) p2;
+        good-digits = check-holds 10 (goodCells (F .cells b) b) (drop 4 checks) p3;
+        good-times = check-holds 11 (F .timed (valuesOf F b)) (drop 5 checks) p4;
+        good-fields = check-holds 12 (F .ruled (valuesOf F b)) [] p5;
       }
 
 -- ---- what is written is read

@@ -7,8 +7,7 @@ pub mod CloseLaws
 pub mod LengthSteps
 pub mod OutlineSteps
 pub mod PartLaws
-pub mod BodyRowLaws
+pub mod BodyCheckLaws
 pub mod MessageLaws
-pub mod CheckLaws
 pub mod FigureLaws
 pub mod Determined

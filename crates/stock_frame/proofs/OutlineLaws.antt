@@ -13,40 +13,40 @@ use Rattle.digits.proofs.PackedLaws.{length-packed, value-field-packed, good-fi
 use Rattle.digits.proofs.Bools.{and-left, and-right, and-both}
 use Rattle.digits.proofs.TestLaws.{holds}
 use Rattle.layout.specs.Cells.{goodCells, decode, fits, encode}
-use Rattle.layout.specs.Rows.{firstFail}
-use Rattle.words.specs.Check.{xorOf}
-use Rattle.stock_frame.specs.Outline.{business, format, version, number, lengthBytes, lengthOf, own, inner, body, kindCells, headCells, kindValues, checkByte, ended, lengthRight, outlineRows}
+use Rattle.layout.specs.Checks.{firstFail}
+use Rattle.words.specs.Xor.{xorOf}
+use Rattle.stock_frame.specs.Outline.{business, format, version, number, lengthBytes, lengthOf, own, inner, body, kindCells, headCells, kindValues, checkByte, ended, lengthRight, outlineChecks}
 use Rattle.stock_frame.specs.Format.{around}
 use Rattle.stock_frame.specs.Reads.{Outlined}
 use Rattle.stock_frame.specs.Writing.{sealed, frameAround}
 use Rattle.layout.proofs.CellLaws.{length-encode, good-encode, decode-encode, encode-decode}
-use Rattle.layout.proofs.RowLaws.{row-holds, rows-after}
+use Rattle.layout.proofs.CheckLaws.{check-holds, checks-after}
 
--- ---- the rows by their names
+-- ---- the checks by their names
 module _ (t : List ℕ) where
-  pub outlined-passes : Outlined t → firstFail (outlineRows t) ≡ 0
+  pub outlined-passes : Outlined t → firstFail (outlineChecks t) ≡ 0
   outlined-passes o =
       rw (o .some, o .starts, o .headed, o .lengthed, o .whole, o .ends, o .checked, o .packed-head)
 
-  pub passes-outlined : firstFail (outlineRows t) ≡ 0 → Outlined t
+  pub passes-outlined : firstFail (outlineChecks t) ≡ 0 → Outlined t
   passes-outlined p =
-      let rows = outlineRows t in
-      let p1 = rows-after 1 (leb 1 (length t)) (drop 1 rows) p in
-      let p2 = rows-after 0 (eqb (getD t 0 0) 27) (drop 2 rows) p1 in
-      let p3 = rows-after 1 (leb 3 (length t)) (drop 3 rows) p2 in
-      let p4 = rows-after 2 (lengthRight t) (drop 4 rows) p3 in
-      let p5 = rows-after 1 (leb (lengthOf t) (length t)) (drop 5 rows) p4 in
-      let p6 = rows-after 3 (ended (own t)) (drop 6 rows) p5 in
-      let p7 = rows-after 4 (eqb (checkByte (own t)) (xorOf (inner (own t)))) (drop 7 rows) p6 in
+      let checks = outlineChecks t in
+      let p1 = checks-after 1 (leb 1 (length t)) (drop 1 checks) p in
+      let p2 = checks-after 0 (eqb (getD t 0 0) 27) (drop 2 checks) p1 in
+      let p3 = checks-after 1 (leb 3 (length t)) (drop 3 checks) p2 in
+      let p4 = checks-after 2 (lengthRight t) (drop 4 checks) p3 in
+      let p5 = checks-after 1 (leb (lengthOf t) (length t)) (drop 5 checks) p4 in
+      let p6 = checks-after 3 (ended (own t)) (drop 6 checks) p5 in
+      let p7 = checks-after 4 (eqb (checkByte (own t)) (xorOf (inner (own t)))) (drop 7 checks) p6 in
       record {
-        some = row-holds 1 (leb 1 (length t)) (drop 1 rows) p;
-        starts = row-holds 0 (eqb (getD t 0 0) 27) (drop 2 rows) p1;
-        headed = row-holds 1 (leb 3 (length t)) (drop 3 rows) p2;
-        lengthed = row-holds 2 (lengthRight t) (drop 4 rows) p3;
-        whole = row-holds 1 (leb (lengthOf t) (length t)) (drop 5 rows) p4;
-        ends = row-holds 3 (ended (own t)) (drop 6 rows) p5;
-        checked = row-holds 4 (eqb (checkByte (own t)) (xorOf (inner (own t)))) (drop 7 rows) p6;
-        packed-head = row-holds 5 (goodCells kindCells (drop 3 (own t))) [] p7;
+        some = check-holds 1 (leb 1 (length t)) (drop 1 checks) p;
+        starts = check-holds 0 (eqb (getD t 0 0) 27) (drop 2 checks) p1;
+        headed = check-holds 1 (leb 3 (length t)) (drop 3 checks) p2;
+        lengthed = check-holds 2 (lengthRight t) (drop 4 checks) p3;
+        whole = check-holds 1 (leb (lengthOf t) (length t)) (drop 5 checks) p4;
+        ends = check-holds 3 (ended (own t)) (drop 6 checks) p5;
+        checked = check-holds 4 (eqb (checkByte (own t)) (xorOf (inner (own t)))) (drop 7 checks) p6;
+        packed-head = check-holds 5 (goodCells kindCells (drop 3 (own t))) [] p7;
       }
 
 -- ---- the bytes around any inner part
@@ -103,7 +103,7 @@ module _ (l k b : List ℕ) (ll : length l ≡ 2) (lk : length k ≡ 7) where
     length-bytes-parts : lengthBytes (sealed ((l ++ k) ++ b) ++ r) ≡ l
     length-bytes-parts = ap (take 2) regroup ∙ take-at l (k ++ after-head) 2 ll
 
-    -- the rows hold where the bytes before the body say what they should
+    -- the checks hold where the bytes before the body say what they should
     module _ (gl : goodField 4 l ≡ true) (vl : value l ≡ around + length b) (low : 1 ≤ length b) (high : around + length b ≤ 1024)
         (gk : (more : List ℕ) → goodCells kindCells (k ++ more) ≡ true) where
       told : lengthOf (sealed ((l ++ k) ++ b) ++ r) ≡ around + length b

@@ -1,4 +1,4 @@
--- The outline row by row: what each row that fails answers, and what the header's digits tell.
+-- The outline check by check: what each check that fails answers, and what the header's digits tell.
 use Prim.Native.Nat.{ℕ, _+_, _-_, _*_, _%_, _≤_, _<_}
 use mathlib.Core.Path.{_≡_, refl, sym, ap, ap₂, _∙_}
 use mathlib.Core.Bool.{Bool, true, false, cond, _&&_}
@@ -15,60 +15,60 @@ use Rattle.digits.proofs.Bools.{and-left, and-both}
 use Rattle.digits.proofs.TestLaws.{holds}
 use Rattle.digits.proofs.PackedLaws.{two-lt}
 use Rattle.layout.specs.Cells.{goodCells, decode}
-use Rattle.layout.specs.Rows.{Row, must, firstFail}
+use Rattle.layout.specs.Checks.{Check, must, firstFail}
 use Rattle.answers.specs.Answers.{named}
-use Rattle.words.specs.Check.{xorOf}
-use Rattle.stock_frame.specs.Outline.{lengthBytes, lengthOf, own, inner, kindCells, checkByte, ended, lengthRight, outlineRows, headOf, outlineOf}
+use Rattle.words.specs.Xor.{xorOf}
+use Rattle.stock_frame.specs.Outline.{lengthBytes, lengthOf, own, inner, kindCells, checkByte, ended, lengthRight, outlineChecks, headOf, outlineOf}
 use Rattle.answers.specs.declared.Answer.the-variants.{NoFrame, Refused}
 use Rattle.stock_frame.specs.declared.head.Outline.the-variants.{Whole, Not}
 use Rattle.stock_frame.proofs.OutlineLaws.{length-bytes-taken, right-length}
 use Rattle.layout.proofs.WholeLaws.{good-wholes}
 use Rattle.stock_frame.proofs.LengthSteps.{lengthIn}
 
--- ---- the first row that fails answers
+-- ---- the first check that fails answers
 module _ (t : List ℕ) where
-  pub answered : (k : ℕ) → firstFail (outlineRows t) ≡ k
+  pub answered : (k : ℕ) → firstFail (outlineChecks t) ≡ k
       → cond (eqb k 0) (Whole (headOf (own t))) (Not (named k (record { format = 0; seq = 0; length = lengthOf t }))) ≡ outlineOf t
   unfolding outlineOf
   answered k e = ap (λ (n : ℕ). cond (eqb n 0) (Whole (headOf (own t))) (Not (named n (record { format = 0; seq = 0; length = lengthOf t })))) (sym e)
 
-  pub row-none : length t < 1 → Not (NoFrame 2) ≡ outlineOf t
-  row-none h = answered 2 (rw (lt-leb 1 (length t) h))
+  pub check-none : length t < 1 → Not (NoFrame 2) ≡ outlineOf t
+  check-none h = answered 2 (rw (lt-leb 1 (length t) h))
 
   module _ (some : 1 ≤ length t) where
-    pub row-first : (getD t 0 0 ≡ 27 → ⊥) → Not (NoFrame 1) ≡ outlineOf t
-    row-first h = answered 1 (rw (le-leb 1 (length t) some, ne-eqb (getD t 0 0) 27 h))
+    pub check-first : (getD t 0 0 ≡ 27 → ⊥) → Not (NoFrame 1) ≡ outlineOf t
+    check-first h = answered 1 (rw (le-leb 1 (length t) some, ne-eqb (getD t 0 0) 27 h))
 
     module _ (starts : getD t 0 0 ≡ 27) where
-      pub row-three : length t < 3 → Not (NoFrame 2) ≡ outlineOf t
-      row-three h = answered 2 (rw (le-leb 1 (length t) some, eq-eqb (getD t 0 0) 27 starts, lt-leb 3 (length t) h))
+      pub check-three : length t < 3 → Not (NoFrame 2) ≡ outlineOf t
+      check-three h = answered 2 (rw (le-leb 1 (length t) some, eq-eqb (getD t 0 0) 27 starts, lt-leb 3 (length t) h))
 
       module _ (three : 3 ≤ length t) where
-        passed : firstFail (outlineRows t) ≡ firstFail (drop 3 (outlineRows t))
+        passed : firstFail (outlineChecks t) ≡ firstFail (drop 3 (outlineChecks t))
         passed = rw (le-leb 1 (length t) some, eq-eqb (getD t 0 0) 27 starts, le-leb 3 (length t) three)
 
-        pub row-length : lengthRight t ≡ false → Not (NoFrame 3) ≡ outlineOf t
-        row-length h = answered 3 (passed ∙ rw h)
+        pub check-length : lengthRight t ≡ false → Not (NoFrame 3) ≡ outlineOf t
+        check-length h = answered 3 (passed ∙ rw h)
 
         module _ (right : lengthRight t ≡ true) where
-          pub row-whole : length t < lengthOf t → Not (NoFrame 2) ≡ outlineOf t
-          row-whole h = answered 2 (passed ∙ rw (right, lt-leb (lengthOf t) (length t) h))
+          pub check-whole : length t < lengthOf t → Not (NoFrame 2) ≡ outlineOf t
+          check-whole h = answered 2 (passed ∙ rw (right, lt-leb (lengthOf t) (length t) h))
 
           module _ (whole : lengthOf t ≤ length t) where
-            pub row-end : ended (own t) ≡ false → Not (NoFrame 4) ≡ outlineOf t
-            row-end h = answered 4 (passed ∙ rw (right, le-leb (lengthOf t) (length t) whole, h))
+            pub check-end : ended (own t) ≡ false → Not (NoFrame 4) ≡ outlineOf t
+            check-end h = answered 4 (passed ∙ rw (right, le-leb (lengthOf t) (length t) whole, h))
 
             module _ (ends : ended (own t) ≡ true) where
-              pub row-check : (checkByte (own t) ≡ xorOf (inner (own t)) → ⊥) → Not (NoFrame 5) ≡ outlineOf t
-              row-check h = answered 5 (passed ∙ rw (right, le-leb (lengthOf t) (length t) whole, ends, ne-eqb (checkByte (own t)) (xorOf (inner (own t))) h))
+              pub check-byte : (checkByte (own t) ≡ xorOf (inner (own t)) → ⊥) → Not (NoFrame 5) ≡ outlineOf t
+              check-byte h = answered 5 (passed ∙ rw (right, le-leb (lengthOf t) (length t) whole, ends, ne-eqb (checkByte (own t)) (xorOf (inner (own t))) h))
 
               module _ (checked : checkByte (own t) ≡ xorOf (inner (own t))) where
-                pub row-head : goodCells kindCells (drop 3 (own t)) ≡ false → Not (Refused 6 (lengthOf t)) ≡ outlineOf t
-                row-head h =
+                pub check-head : goodCells kindCells (drop 3 (own t)) ≡ false → Not (Refused 6 (lengthOf t)) ≡ outlineOf t
+                check-head h =
                     answered 6 (passed ∙ rw (right, le-leb (lengthOf t) (length t) whole, ends, eq-eqb (checkByte (own t)) (xorOf (inner (own t))) checked, h))
 
-                pub row-all : goodCells kindCells (drop 3 (own t)) ≡ true → Whole (headOf (own t)) ≡ outlineOf t
-                row-all h =
+                pub check-all : goodCells kindCells (drop 3 (own t)) ≡ true → Whole (headOf (own t)) ≡ outlineOf t
+                check-all h =
                     answered 0 (passed ∙ rw (right, le-leb (lengthOf t) (length t) whole, ends, eq-eqb (checkByte (own t)) (xorOf (inner (own t))) checked, h))
 
 -- ---- the header's digits: x is the length's last byte, g what follows it
@@ -137,9 +137,9 @@ module _ (t : List ℕ) (three : 3 ≤ length t) where
 
 -- ---- the outline is that of the frame's own bytes
 
--- the rows on these
-abbrev lastRows : List ℕ → List Row
-lastRows f = must 4 (ended f) ∷ must 5 (eqb (checkByte f) (xorOf (inner f))) ∷ must 6 (goodCells kindCells (drop 3 f)) ∷ []
+-- the checks on these
+abbrev lastChecks : List ℕ → List Check
+lastChecks f = must 4 (ended f) ∷ must 5 (eqb (checkByte f) (xorOf (inner f))) ∷ must 6 (goodCells kindCells (drop 3 f)) ∷ []
 
 module _ (t : List ℕ) (starts : getD t 0 0 ≡ 27) (three : 3 ≤ length t) (right : lengthRight t ≡ true) (whole : lengthOf t ≤ length t) where
   least : 14 ≤ lengthOf t
@@ -163,8 +163,8 @@ module _ (t : List ℕ) (starts : getD t 0 0 ≡ 27) (three : 3 ≤ length t) (r
   pub own-own : own (own t) ≡ own t
   own-own = ap (λ (k : ℕ). take k (own t)) own-length ∙ take-take (lengthOf t) (lengthOf t) t (omega arith)
 
-  left-rows : firstFail (outlineRows t) ≡ firstFail (lastRows (own t))
-  left-rows = passed t (omega arith) starts three ∙ rw (right, le-leb (lengthOf t) (length t) whole)
+  left-checks : firstFail (outlineChecks t) ≡ firstFail (lastChecks (own t))
+  left-checks = passed t (omega arith) starts three ∙ rw (right, le-leb (lengthOf t) (length t) whole)
 
 -- any bytes behind the frame's own change nothing
 pub outline-own : (t : List ℕ) → getD t 0 0 ≡ 27 → 3 ≤ length t → lengthRight t ≡ true → lengthOf t ≤ length t → outlineOf (own t) ≡ outlineOf t
@@ -174,12 +174,12 @@ outline-own t starts three right whole =
     let count = own-count t starts three right whole in
     let told = own-length t starts three right whole in
     let same = own-own t starts three right whole in
-    let rows : firstFail (outlineRows f) ≡ firstFail (outlineRows t) =
-    left-rows f (own-starts t starts three right whole) (omega (arith, count, least t starts three right whole)) (own-right t starts three right whole) (omega arith)
-    ∙ ap (λ (m : List ℕ). firstFail (lastRows m)) same
-    ∙ sym (left-rows t starts three right whole) in
-    ap₂ (λ (n l : ℕ). cond (eqb n 0) (Whole (headOf (own f))) (Not (named n (record { format = 0; seq = 0; length = l })))) rows told
-    ∙ ap (λ (m : List ℕ). cond (eqb (firstFail (outlineRows t)) 0) (Whole (headOf m)) (Not (named (firstFail (outlineRows t)) (record { format = 0; seq = 0; length = lengthOf t })))) same
+    let checks : firstFail (outlineChecks f) ≡ firstFail (outlineChecks t) =
+    left-checks f (own-starts t starts three right whole) (omega (arith, count, least t starts three right whole)) (own-right t starts three right whole) (omega arith)
+    ∙ ap (λ (m : List ℕ). firstFail (lastChecks m)) same
+    ∙ sym (left-checks t starts three right whole) in
+    ap₂ (λ (n l : ℕ). cond (eqb n 0) (Whole (headOf (own f))) (Not (named n (record { format = 0; seq = 0; length = l })))) checks told
+    ∙ ap (λ (m : List ℕ). cond (eqb (firstFail (outlineChecks t)) 0) (Whole (headOf m)) (Not (named (firstFail (outlineChecks t)) (record { format = 0; seq = 0; length = lengthOf t })))) same
 
 -- ---- a frame's own bytes f, test by test
 module _ (f : List ℕ) (long : 14 ≤ length f) (starts : getD f 0 0 ≡ 27) (right : lengthRight f ≡ true) (told : lengthOf f ≡ length f) where
@@ -188,13 +188,13 @@ module _ (f : List ℕ) (long : 14 ≤ length f) (starts : getD f 0 0 ≡ 27) (r
 
   pub own-return : (getD f (length f - 2) 0 ≡ 13 → ⊥) → Not (NoFrame 4) ≡ outlineOf f
   own-return h =
-      row-end f (omega arith) starts (omega arith) right (omega arith)
+      check-end f (omega arith) starts (omega arith) right (omega arith)
       (ap ended is-own ∙ ap (λ (t : Bool). t && eqb (getD f (length f - 1) 0) 10) (ne-eqb (getD f (length f - 2) 0) 13 h))
 
   module _ (cr : getD f (length f - 2) 0 ≡ 13) where
     pub own-feed : (getD f (length f - 1) 0 ≡ 10 → ⊥) → Not (NoFrame 4) ≡ outlineOf f
     own-feed h =
-        row-end f (omega arith) starts (omega arith) right (omega arith)
+        check-end f (omega arith) starts (omega arith) right (omega arith)
         (ap ended is-own ∙ ap₂ _&&_ (eq-eqb (getD f (length f - 2) 0) 13 cr) (ne-eqb (getD f (length f - 1) 0) 10 h))
 
     module _ (lf : getD f (length f - 1) 0 ≡ 10) (x : ℕ) (is : x ≡ xorOf (take (length f - 3 - 1) (drop 1 f))) where
@@ -208,7 +208,7 @@ module _ (f : List ℕ) (long : 14 ≤ length f) (starts : getD f 0 0 ≡ 27) (r
 
       pub own-check : (getD f (length f - 3) 0 ≡ x → ⊥) → Not (NoFrame 5) ≡ outlineOf f
       own-check h =
-          row-check f (omega arith) starts (omega arith) right (omega arith) ends
+          check-byte f (omega arith) starts (omega arith) right (omega arith) ends
           (λ q. h (sym (ap checkByte is-own) ∙ q ∙ covers))
 
       module _ (same : getD f (length f - 3) 0 ≡ x) (h : Block) (read : h ≡ blockAt 8 4 f 2) where
@@ -235,7 +235,7 @@ module _ (f : List ℕ) (long : 14 ≤ length f) (starts : getD f 0 0 ≡ 27) (r
         pub own-head : h .good ≡ false → Not (Refused 6 (length f)) ≡ outlineOf f
         own-head b =
             ap (λ (k : ℕ). Not (Refused 6 k)) (sym told)
-            ∙ row-head f (omega arith) starts (omega arith) right (omega arith) ends checked (sym digits-good ∙ b)
+            ∙ check-head f (omega arith) starts (omega arith) right (omega arith) ends checked (sym digits-good ∙ b)
 
         pub own-whole : h .good ≡ true → Whole (record { kind = h .first % 1000000; seq = h .last; length = length f }) ≡ outlineOf f
         own-whole b =
@@ -245,7 +245,7 @@ module _ (f : List ℕ) (long : 14 ≤ length f) (starts : getD f 0 0 ≡ 27) (r
             let s = ap (λ (r : Block). r .last) halves ∙ head-number (getD f 2 0) (drop 3 f) (omega (arith, enough)) in
             ap₂ (λ (x y : ℕ). Whole (record { kind = x; seq = y; length = length f })) k s
             ∙ ap (λ (m : List ℕ). Whole (headOf m)) (sym is-own)
-            ∙ row-all f (omega arith) starts (omega arith) right (omega arith) ends checked (sym digits-good ∙ b)
+            ∙ check-all f (omega arith) starts (omega arith) right (omega arith) ends checked (sym digits-good ∙ b)
 
 -- ---- a line from a place on, test by test
 module _ (line : List ℕ) (at : ℕ) where
@@ -256,15 +256,15 @@ module _ (line : List ℕ) (at : ℕ) where
   first-at = let e : at + 0 ≡ at = omega arith in byte-at 0 ∙ ap (λ (k : ℕ). getD line k 0) e
 
   pub line-none : length line ≤ at → Not (NoFrame 2) ≡ outlineOf (drop at line)
-  line-none h = row-none (drop at line) (rw length-drop (omega arith))
+  line-none h = check-none (drop at line) (rw length-drop (omega arith))
 
   module _ (some : at < length line) where
     pub line-first : (getD line at 0 ≡ 27 → ⊥) → Not (NoFrame 1) ≡ outlineOf (drop at line)
-    line-first h = row-first (drop at line) (rw length-drop (omega arith)) (λ q. h (sym first-at ∙ q))
+    line-first h = check-first (drop at line) (rw length-drop (omega arith)) (λ q. h (sym first-at ∙ q))
 
     module _ (starts : getD line at 0 ≡ 27) where
       pub line-three : length line - at < 3 → Not (NoFrame 2) ≡ outlineOf (drop at line)
-      line-three h = row-three (drop at line) (rw length-drop (omega arith)) (first-at ∙ starts) (rw length-drop (omega arith))
+      line-three h = check-three (drop at line) (rw length-drop (omega arith)) (first-at ∙ starts) (rw length-drop (omega arith))
 
       module _ (three : 3 ≤ length line - at) (n : ℕ) (is : n ≡ lengthIn (getD line (at + 1) 0) (getD line (at + 2) 0)) where
         enough-at : 3 ≤ length (drop at line)
@@ -275,7 +275,7 @@ module _ (line : List ℕ) (at : ℕ) where
 
         pub line-length : n ≡ 0 → Not (NoFrame 3) ≡ outlineOf (drop at line)
         line-length z =
-            row-length (drop at line) (rw length-drop (omega arith)) (first-at ∙ starts) enough-at
+            check-length (drop at line) (rw length-drop (omega arith)) (first-at ∙ starts) enough-at
             (length-none (drop at line) enough-at n length-at z)
 
         module _ (length-is : n ≡ 0 → ⊥) where
@@ -287,7 +287,7 @@ module _ (line : List ℕ) (at : ℕ) where
 
           pub line-whole : length line - at < n → Not (NoFrame 2) ≡ outlineOf (drop at line)
           line-whole h =
-              row-whole (drop at line) (rw length-drop (omega arith)) (first-at ∙ starts) enough-at right-at
+              check-whole (drop at line) (rw length-drop (omega arith)) (first-at ∙ starts) enough-at right-at
               (rw (length-drop, ← told-at) h)
 
           module _ (whole : n ≤ length line - at) where

@@ -9,39 +9,39 @@ use lib.Seq.{take-take, take-append-le, drop-append-le, drop-drop}
 use lib.Dec.{eqb, leb}
 use borrow.Author.Tests.{eqb-true, eqb-false, leb-true, leb-false}
 use Rattle.digits.specs.Packed.{goodField, value}
-use Rattle.layout.specs.Rows.{firstFail}
+use Rattle.layout.specs.Checks.{firstFail}
 use Rattle.answers.specs.Answers.{named}
-use Rattle.stock_frame.specs.Outline.{lengthBytes, lengthOf, own, body, lengthRight, outlineRows, headOf, outlineOf}
+use Rattle.stock_frame.specs.Outline.{lengthBytes, lengthOf, own, body, lengthRight, outlineChecks, headOf, outlineOf}
 use Rattle.stock_frame.specs.Reads.{Outlined}
 use Rattle.stock_frame.specs.declared.head.Head.{Head}
 use Rattle.answers.specs.declared.Answer.{Answer}
 use Rattle.answers.specs.declared.Answer.the-variants.{NoFrame}
 use Rattle.stock_frame.specs.declared.head.Outline.the-variants.{Whole, Not}
 use Rattle.stock_frame.proofs.OutlineLaws.{passes-outlined, length-own, least-length}
-use Rattle.stock_frame.proofs.OutlineSteps.{answered, row-none, row-first, row-three, row-length, row-whole, outline-own}
+use Rattle.stock_frame.proofs.OutlineSteps.{answered, check-none, check-first, check-three, check-length, check-whole, outline-own}
 
 -- ---- what the answer tells
 module _ (t : List ℕ) where
-  -- a whole outline is one whose rows all hold, and its header is that of the frame's own bytes
+  -- a whole outline is one whose checks all hold, and its header is that of the frame's own bytes
   pub whole-outlined : (h : Head) → outlineOf t ≡ Whole h → Outlined t × (h ≡ headOf (own t))
-  whole-outlined h e = go (eqb (firstFail (outlineRows t)) 0) refl (answered t (firstFail (outlineRows t)) refl ∙ e)
+  whole-outlined h e = go (eqb (firstFail (outlineChecks t)) 0) refl (answered t (firstFail (outlineChecks t)) refl ∙ e)
     where
-      go : (b : Bool) → eqb (firstFail (outlineRows t)) 0 ≡ b
-          → cond b (Whole (headOf (own t))) (Not (named (firstFail (outlineRows t)) (record { format = 0; seq = 0; length = lengthOf t }))) ≡ Whole h
+      go : (b : Bool) → eqb (firstFail (outlineChecks t)) 0 ≡ b
+          → cond b (Whole (headOf (own t))) (Not (named (firstFail (outlineChecks t)) (record { format = 0; seq = 0; length = lengthOf t }))) ≡ Whole h
           → Outlined t × (h ≡ headOf (own t))
-      go true z q = (passes-outlined t (eqb-true (firstFail (outlineRows t)) 0 z), cc)
+      go true z q = (passes-outlined t (eqb-true (firstFail (outlineChecks t)) 0 z), cc)
       go false z q = let x : _≡_ {A = ℕ} 0 1 = cc in absurd (omega arith)
 
-  -- any other outline is the answer of the first row that fails
+  -- any other outline is the answer of the first check that fails
   pub not-outlined : (a : Answer) → outlineOf t ≡ Not a
-      → (firstFail (outlineRows t) ≡ 0 → ⊥) × (a ≡ named (firstFail (outlineRows t)) (record { format = 0; seq = 0; length = lengthOf t }))
-  not-outlined a e = go (eqb (firstFail (outlineRows t)) 0) refl (answered t (firstFail (outlineRows t)) refl ∙ e)
+      → (firstFail (outlineChecks t) ≡ 0 → ⊥) × (a ≡ named (firstFail (outlineChecks t)) (record { format = 0; seq = 0; length = lengthOf t }))
+  not-outlined a e = go (eqb (firstFail (outlineChecks t)) 0) refl (answered t (firstFail (outlineChecks t)) refl ∙ e)
     where
-      go : (b : Bool) → eqb (firstFail (outlineRows t)) 0 ≡ b
-          → cond b (Whole (headOf (own t))) (Not (named (firstFail (outlineRows t)) (record { format = 0; seq = 0; length = lengthOf t }))) ≡ Not a
-          → (firstFail (outlineRows t) ≡ 0 → ⊥) × (a ≡ named (firstFail (outlineRows t)) (record { format = 0; seq = 0; length = lengthOf t }))
+      go : (b : Bool) → eqb (firstFail (outlineChecks t)) 0 ≡ b
+          → cond b (Whole (headOf (own t))) (Not (named (firstFail (outlineChecks t)) (record { format = 0; seq = 0; length = lengthOf t }))) ≡ Not a
+          → (firstFail (outlineChecks t) ≡ 0 → ⊥) × (a ≡ named (firstFail (outlineChecks t)) (record { format = 0; seq = 0; length = lengthOf t }))
       go true z q = let x : _≡_ {A = ℕ} 0 1 = cc in absurd (omega arith)
-      go false z q = (eqb-false (firstFail (outlineRows t)) 0 z, cc)
+      go false z q = (eqb-false (firstFail (outlineChecks t)) 0 z, cc)
 
 -- ---- parts of the first m bytes
 pub part-taken : (k n m : ℕ) (l : List ℕ) → n + k ≤ m → take k (drop n (take m l)) ≡ take k (drop n l)
@@ -91,24 +91,24 @@ module _ (t u : List ℕ) where
             sym (outline-own (t ++ u) (more-first (omega arith) ∙ s) (omega (arith, longer)) (more-right three ∙ r) m)
             ∙ ap outlineOf (ap (λ (k : ℕ). take k (t ++ u)) (more-length three) ∙ take-append-le (lengthOf t) t u w)
             ∙ outline-own t s three r w
-        whole three s r false e = absurd (settled (sym (row-whole t (omega arith) s three r (leb-false (lengthOf t) (length t) e))))
+        whole three s r false e = absurd (settled (sym (check-whole t (omega arith) s three r (leb-false (lengthOf t) (length t) e))))
 
         right : (three : 3 ≤ length t) → getD t 0 0 ≡ 27 → (b : Bool) → lengthRight t ≡ b → outlineOf (t ++ u) ≡ outlineOf t
         right three s true e = whole three s e (leb (lengthOf t) (length t)) refl
         right three s false e =
-            sym (row-length (t ++ u) (omega (arith, longer)) (more-first (omega arith) ∙ s) (omega (arith, longer)) (more-right three ∙ e))
-            ∙ row-length t (omega arith) s three e
+            sym (check-length (t ++ u) (omega (arith, longer)) (more-first (omega arith) ∙ s) (omega (arith, longer)) (more-right three ∙ e))
+            ∙ check-length t (omega arith) s three e
 
         headed : (some : 1 ≤ length t) → getD t 0 0 ≡ 27 → (b : Bool) → leb 3 (length t) ≡ b → outlineOf (t ++ u) ≡ outlineOf t
         headed h s true e = right (leb-true 3 (length t) e) s (lengthRight t) refl
-        headed h s false e = absurd (settled (sym (row-three t h s (leb-false 3 (length t) e))))
+        headed h s false e = absurd (settled (sym (check-three t h s (leb-false 3 (length t) e))))
 
         starts : (some : 1 ≤ length t) → (b : Bool) → eqb (getD t 0 0) 27 ≡ b → outlineOf (t ++ u) ≡ outlineOf t
         starts h true e = headed h (eqb-true (getD t 0 0) 27 e) (leb 3 (length t)) refl
         starts h false e =
             let n : getD t 0 0 ≡ 27 → ⊥ = eqb-false (getD t 0 0) 27 e in
-            sym (row-first (t ++ u) (omega (arith, longer)) (λ q. n (sym (more-first h) ∙ q))) ∙ row-first t h n
+            sym (check-first (t ++ u) (omega (arith, longer)) (λ q. n (sym (more-first h) ∙ q))) ∙ check-first t h n
 
         some : (b : Bool) → leb 1 (length t) ≡ b → outlineOf (t ++ u) ≡ outlineOf t
         some true e = starts (leb-true 1 (length t) e) (eqb (getD t 0 0) 27) refl
-        some false e = absurd (settled (sym (row-none t (leb-false 1 (length t) e))))
+        some false e = absurd (settled (sym (check-none t (leb-false 1 (length t) e))))

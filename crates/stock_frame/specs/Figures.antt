@@ -4,10 +4,10 @@ use mathlib.Core.Path.{_≡_}
 use mathlib.Core.Bool.{Bool, true, false, cond}
 use mathlib.Core.List.{List, [], _∷_}
 use lib.Dec.{eqb, leb}
-use Rattle.layout.specs.Rows.{firstFail}
+use Rattle.layout.specs.Checks.{firstFail}
 use Rattle.answers.specs.Answers.{answerNumber, answerValues, writtenNumber, writtenValues}
 use Rattle.answers.specs.declared.Written.{Written}
-use Rattle.stock_frame.specs.Outline.{lengthOf, own, headOf, outlineRows, outlineOf}
+use Rattle.stock_frame.specs.Outline.{lengthOf, own, headOf, outlineChecks, outlineOf}
 use Rattle.stock_frame.specs.declared.head.Outline.{Outline}
 use Rattle.stock_frame.specs.declared.head.Outline.the-variants.{Whole, Not}
 
@@ -27,7 +27,7 @@ beside n all length = cond (eqb n 0) all (cond (leb n 5) [] (length ∷ []))
 
 -- an outline's number is the first check's that fails, at most 6, and beside it stands what the rules name
 pub record OutlineSays (t : List ℕ) : Type 0 where
-  pub first : outlineNumber (outlineOf t) ≡ firstFail (outlineRows t)
+  pub first : outlineNumber (outlineOf t) ≡ firstFail (outlineChecks t)
   pub at-most : outlineNumber (outlineOf t) ≤ 6
   pub values : let h = headOf (own t) in
       outlineValues (outlineOf t) ≡ beside (outlineNumber (outlineOf t)) (h .kind ∷ h .seq ∷ h .length ∷ []) (lengthOf t)

@@ -1,11 +1,11 @@
--- A format: what its row of the table says, the cells of its body, and the rules on what the cells hold.
+-- A format: what its check of the table says, the cells of its body, and the rules on what the cells hold.
 use Prim.Native.Nat.{ℕ, _+_}
 use mathlib.Core.Bool.{Bool, _&&_}
 use mathlib.Core.List.{List, [], _∷_}
 use lib.ListN.{length}
 use lib.Dec.{eqb, leb}
 use Rattle.layout.specs.Cells.{Cell, size, goodCells, decode}
-use Rattle.layout.specs.Rows.{Row, must, firstFail}
+use Rattle.layout.specs.Checks.{Check, must, firstFail}
 use Rattle.answers.specs.Answers.{named}
 use Rattle.answers.specs.declared.Answer.{Answer}
 
@@ -17,7 +17,7 @@ pub record Format : Type 0 where
   pub most : ℕ
   -- the cells of the body, which its bytes may tell
   pub cells : List ℕ → List Cell
-  -- rows 10, 12 and 13, of the numbers that the cells hold
+  -- checks 10, 12 and 13, of the numbers that the cells hold
   pub levels : List ℕ → Bool
   pub timed : List ℕ → Bool
   pub ruled : List ℕ → Bool
@@ -34,9 +34,9 @@ around = 13
 abbrev pub ranged : Format → ℕ → Bool
 ranged F n = leb (F .least) (around + n) && leb (around + n) (F .most)
 
--- the paper's rows from the format's range on
-abbrev pub bodyRows : Format → List ℕ → List Row
-bodyRows F b =
+-- the rules' checks from the format's range on
+abbrev pub bodyChecks : Format → List ℕ → List Check
+bodyChecks F b =
     must 9 (ranged F (length b))
     ∷ must 10 (F .levels (valuesOf F b))
     ∷ must 9 (eqb (size (F .cells b)) (length b))
@@ -47,4 +47,4 @@ bodyRows F b =
 
 -- what a body in a whole outline answers
 unfoldable pub bodyAnswer : Format → ℕ → List ℕ → Answer
-bodyAnswer F seq b = named (firstFail (bodyRows F b)) (record { format = F .number; seq = seq; length = around + length b })
+bodyAnswer F seq b = named (firstFail (bodyChecks F b)) (record { format = F .number; seq = seq; length = around + length b })

@@ -4,6 +4,5 @@ pub mod Format
 pub mod Formats
 pub mod Writing
 pub mod Codec
-pub mod Checks
 pub mod Reads
 pub mod Figures

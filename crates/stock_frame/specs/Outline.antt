@@ -4,10 +4,10 @@ use mathlib.Core.Bool.{Bool, cond, _&&_}
 use mathlib.Core.List.{List, [], _∷_}
 use lib.ListN.{length, getD, take, drop}
 use lib.Dec.{eqb, leb}
-use Rattle.words.specs.Check.{xorOf}
+use Rattle.words.specs.Xor.{xorOf}
 use Rattle.digits.specs.Packed.{goodField, value}
 use Rattle.layout.specs.Cells.{Cell, digits, goodCells, decode}
-use Rattle.layout.specs.Rows.{Row, must, firstFail}
+use Rattle.layout.specs.Checks.{Check, must, firstFail}
 use Rattle.answers.specs.Answers.{named}
 use Rattle.stock_frame.specs.declared.head.Head.{Head}
 use Rattle.stock_frame.specs.declared.head.Outline.{Outline}
@@ -67,9 +67,9 @@ ended f = eqb (getD f (length f - 2) 0) 13 && eqb (getD f (length f - 1) 0) 10
 abbrev pub lengthRight : List ℕ → Bool
 lengthRight t = goodField 4 (lengthBytes t) && (leb 14 (lengthOf t) && leb (lengthOf t) 1024)
 
--- the paper's rows up to the bad digit in bytes 4 to 10
-abbrev pub outlineRows : List ℕ → List Row
-outlineRows t =
+-- the rules' checks up to the bad digit in bytes 4 to 10
+abbrev pub outlineChecks : List ℕ → List Check
+outlineChecks t =
     must 2 (leb 1 (length t))
     ∷ must 1 (eqb (getD t 0 0) 27)
     ∷ must 2 (leb 3 (length t))
@@ -86,5 +86,5 @@ headOf f = record { kind = (business f * 100 + format f) * 100 + version f; seq 
 
 unfoldable pub outlineOf : List ℕ → Outline
 outlineOf t =
-    let n = firstFail (outlineRows t) in
+    let n = firstFail (outlineChecks t) in
     cond (eqb n 0) (Whole (headOf (own t))) (Not (named n (record { format = 0; seq = 0; length = lengthOf t })))

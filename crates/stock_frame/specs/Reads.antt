@@ -5,7 +5,7 @@ use mathlib.Core.Bool.{true}
 use mathlib.Core.List.{List}
 use lib.ListN.{length, getD, drop}
 use lib.Dec.{eqb, leb}
-use Rattle.words.specs.Check.{xorOf}
+use Rattle.words.specs.Xor.{xorOf}
 use Rattle.layout.specs.Cells.{size, goodCells}
 use Rattle.stock_frame.specs.Outline.{lengthOf, own, inner, body, business, format, version, number, kindCells, checkByte, ended, lengthRight}
 use Rattle.stock_frame.specs.Format.{Format, valuesOf, ranged}

@@ -5,7 +5,7 @@ use mathlib.Core.List.{List, [], _∷_, _++_}
 use lib.ListN.{length, take, drop}
 use lib.Dec.{leb, ltb}
 use Rattle.layout.specs.Cells.{Cell, encode}
-use Rattle.words.specs.Check.{xorOf}
+use Rattle.words.specs.Xor.{xorOf}
 use Rattle.stock_frame.specs.Outline.{headCells}
 use Rattle.stock_frame.specs.Format.{Format, around}
 use Rattle.answers.specs.declared.Written.{Written}

@@ -8,7 +8,7 @@ ghost use Rattle.stock_frame.specs.Outline.{headCells};
 ghost use Rattle.stock_frame.specs.Writing.{headValues, closeAnswer, closedOver};
 use answers::Written;
 use digits::fields::write;
-use words::check::xor_of;
+use words::xor::xor_of;
 
 // The largest numbers that a format or a version, and a frame's number, can be.
 const MOST_KIND: u8 = 99;

@@ -1,4 +1,4 @@
-// Where a frame begins and ends on a line: the rows up to the header's digits.
+// Where a frame begins and ends on a line: the checks up to the header's digits.
 ghost use mathlib.Core.Path.{_≡_};
 ghost use Prim.Native.Nat.{_≤_};
 ghost use mathlib.Core.Bool.{true, cond};
@@ -9,7 +9,7 @@ use crate::head::Head;
 use crate::head::Outline;
 use answers::Answer;
 use words::blocks::eight_at;
-use words::check::xor_of;
+use words::xor::xor_of;
 
 // The length that a frame's second and third byte give; 0 where they give none.
 fn length_in(a: u8, b: u8) -> usize

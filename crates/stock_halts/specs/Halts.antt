@@ -6,8 +6,8 @@ use mathlib.Core.List.{List, [], _∷_, _++_}
 use lib.ListN.{length, getD, take, replicate}
 use lib.Dec.{eqb, leb}
 use Rattle.layout.specs.Cells.{Cell, raw, digits}
-use Rattle.layout.specs.Rows.{firstFail}
-use Rattle.stock_frame.specs.Format.{Format, valuesOf, bodyRows, bodyAnswer}
+use Rattle.layout.specs.Checks.{firstFail}
+use Rattle.stock_frame.specs.Format.{Format, valuesOf, bodyChecks, bodyAnswer}
 use Rattle.codes_times.specs.Times.{timeOfDay, nines, every, codeRight}
 use Rattle.stock_frame.specs.Codec.{Codec}
 use Rattle.stock_halts.specs.declared.Resume.{Resume}
@@ -40,7 +40,7 @@ stateByte vs = getD vs 8 0
 abbrev pub roundTimes : ℕ → ℕ → Bool
 roundTimes h r = eqb h (nines 0) && eqb r (nines 0)
 
--- row 12: otherwise the halt time is a time of day, and the resume time is still open or a time of day
+-- check 12: otherwise the halt time is a time of day, and the resume time is still open or a time of day
 abbrev pub timesRight : ℕ → ℕ → Bool
 timesRight h r = roundTimes h r || (timeOfDay 0 h && (eqb r (nines 0) || timeOfDay 0 r))
 
@@ -51,7 +51,7 @@ nineteenTimed vs = timesRight (haltTime vs) (resumeTime vs)
 abbrev pub digitByte : ℕ → Bool
 digitByte b = leb 48 b && leb b 57
 
--- row 13: the code's bytes, six digits at the end of a round, and the state
+-- check 13: the code's bytes, six digits at the end of a round, and the state
 abbrev pub codeFor : Bool → List ℕ → Bool
 codeFor round code = codeRight code && cond round (every digitByte code) true
 
@@ -149,5 +149,5 @@ noHalt = record { seq = 0; code = replicate 6 0; event = RoundEnd 0; state = Cyc
 unfoldable pub haltReading : ℕ → List ℕ → HaltReading
 haltReading seq b = record {
   answer = bodyAnswer nineteen seq b;
-  halt = cond (eqb (firstFail (bodyRows nineteen b)) 0) (haltOf seq (valuesOf nineteen b)) noHalt;
+  halt = cond (eqb (firstFail (bodyChecks nineteen b)) 0) (haltOf seq (valuesOf nineteen b)) noHalt;
 }

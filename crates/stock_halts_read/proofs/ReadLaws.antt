@@ -14,9 +14,9 @@ use Rattle.words.specs.declared.blocks.Block.{Block}
 use Rattle.digits.proofs.Bools.{and-both}
 use Rattle.digits.proofs.Values.{even-field}
 use Rattle.layout.specs.Cells.{raw, digits, goodCells}
-use Rattle.layout.specs.Rows.{firstFail}
+use Rattle.layout.specs.Checks.{firstFail}
 use Rattle.answers.specs.Answers.{named}
-use Rattle.stock_frame.specs.Format.{ranged, valuesOf, bodyRows, bodyAnswer}
+use Rattle.stock_frame.specs.Format.{ranged, valuesOf, bodyChecks, bodyAnswer}
 use Rattle.answers.specs.declared.Frame.{Frame}
 use Rattle.answers.specs.declared.Answer.{Answer}
 use Rattle.answers.specs.declared.Answer.the-variants.{Accepted, Refused}
@@ -26,7 +26,7 @@ use Rattle.stock_halts.specs.declared.Sending.{Sending}
 use Rattle.stock_halts.specs.declared.Halt.{Halt}
 use Rattle.stock_halts.specs.declared.HaltReading.{HaltReading}
 use Rattle.layout.proofs.RawLaws.{decode-raws, good-raws}
-use Rattle.stock_frame.proofs.BodyRowLaws.{fails-range, fails-digits, fails-times, fails-fields, fails-none}
+use Rattle.stock_frame.proofs.BodyCheckLaws.{fails-range, fails-digits, fails-times, fails-fields, fails-none}
 use Rattle.stock_halts_read.proofs.TimeLaws.{times-good, first-time, second-time}
 use Rattle.stock_halts.proofs.HaltLaws.{code-joined, halt-joined, resume-joined, state-joined, halt-of-joined}
 
@@ -36,7 +36,7 @@ chosen : (n : ℕ) (f : Frame) (m : Halt) → eqb n 0 ≡ false → leb n 5 ≡ 
 chosen n f m z s = rw (z, s)
 
 module _ (seq : ℕ) (b : List ℕ) where
-  reading-of : (n : ℕ) → firstFail (bodyRows nineteen b) ≡ n
+  reading-of : (n : ℕ) → firstFail (bodyChecks nineteen b) ≡ n
       → haltReading seq b ≡ record {
         answer = named n (record { format = 19; seq = seq; length = 13 + length b });
         halt = cond (eqb n 0) (haltOf seq (valuesOf nineteen b)) noHalt;
@@ -48,14 +48,14 @@ module _ (seq : ℕ) (b : List ℕ) where
         halt = cond (eqb k 0) (haltOf seq (valuesOf nineteen b)) noHalt;
       }) e
 
-  pub refused-as : (n : ℕ) → eqb n 0 ≡ false → leb n 5 ≡ false → firstFail (bodyRows nineteen b) ≡ n → (k : ℕ) → k ≡ 13 + length b
+  pub refused-as : (n : ℕ) → eqb n 0 ≡ false → leb n 5 ≡ false → firstFail (bodyChecks nineteen b) ≡ n → (k : ℕ) → k ≡ 13 + length b
       → (x : HaltReading) → (x .answer ≡ Refused n k) × (x .halt ≡ noHalt) → x ≡ haltReading seq b
   refused-as n z s e k w x p =
       ap₂ (λ (a : Answer) (m : Halt). record { answer = a; halt = m }) (p .0 ∙ ap (Refused n) w) (p .1)
       ∙ sym (reading-of n e ∙ chosen n (record { format = 19; seq = seq; length = 13 + length b }) (haltOf seq (valuesOf nineteen b)) z s)
 
 -- ---- a wrong length
-pub wrong-length : (b : List ℕ) → (length b ≡ 13 → ⊥) → firstFail (bodyRows nineteen b) ≡ 9
+pub wrong-length : (b : List ℕ) → (length b ≡ 13 → ⊥) → firstFail (bodyChecks nineteen b) ≡ 9
 wrong-length b n = fails-range nineteen b (go (leb 26 (13 + length b)) refl)
   where
     go : (t : Bool) → leb 26 (13 + length b) ≡ t → (t && leb (13 + length b) 26) ≡ false
@@ -100,7 +100,7 @@ module _ (b : List ℕ) (l : length b ≡ 13) where
     good-times = good-told ∙ sym (times-good b 6 (omega arith) t e)
 
     -- a bad digit in a time
-    pub bad-times : t .good ≡ false → firstFail (bodyRows nineteen b) ≡ 11
+    pub bad-times : t .good ≡ false → firstFail (bodyChecks nineteen b) ≡ 11
     bad-times g = fails-digits nineteen b within-range refl sized (good-times ∙ g)
 
   module _ (t : Block) (e : t ≡ blockAt 6 2 b 6) (g : t .good ≡ true) where
@@ -136,16 +136,16 @@ module _ (b : List ℕ) (l : length b ≡ 13) where
           state-joined (take 6 b) six-long h r (getD b 12 0),
         )
 
-    pub wrong-times : timesRight h r ≡ false → firstFail (bodyRows nineteen b) ≡ 12
+    pub wrong-times : timesRight h r ≡ false → firstFail (bodyChecks nineteen b) ≡ 12
     wrong-times m = fails-times nineteen b within-range refl sized good-digits (timed-told ∙ m)
 
     module _ (m : timesRight h r ≡ true) where
-      pub wrong-code : codeFits (take 6 b) h r ≡ false → firstFail (bodyRows nineteen b) ≡ 13
+      pub wrong-code : codeFits (take 6 b) h r ≡ false → firstFail (bodyChecks nineteen b) ≡ 13
       wrong-code e =
           fails-fields nineteen b within-range refl sized good-digits (timed-told ∙ m)
           (ruled-told ∙ ap (λ (x : Bool). x && stateRight (getD b 12 0)) e)
 
-      pub wrong-state : stateRight (getD b 12 0) ≡ false → firstFail (bodyRows nineteen b) ≡ 13
+      pub wrong-state : stateRight (getD b 12 0) ≡ false → firstFail (bodyChecks nineteen b) ≡ 13
       wrong-state e =
           fails-fields nineteen b within-range refl sized good-digits (timed-told ∙ m)
           (ruled-told ∙ ap (λ (x : Bool). codeFits (take 6 b) h r && x) e ∙ and-false (codeFits (take 6 b) h r))

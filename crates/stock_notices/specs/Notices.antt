@@ -6,8 +6,8 @@ use mathlib.Core.List.{List, _∷_, _++_}
 use lib.ListN.{length, getD, take, drop, replicate}
 use lib.Dec.{eqb}
 use Rattle.layout.specs.Cells.{Cell, raw, digits}
-use Rattle.layout.specs.Rows.{firstFail}
-use Rattle.stock_frame.specs.Format.{Format, valuesOf, bodyRows, bodyAnswer}
+use Rattle.layout.specs.Checks.{firstFail}
+use Rattle.stock_frame.specs.Format.{Format, valuesOf, bodyChecks, bodyAnswer}
 use Rattle.codes_times.specs.Times.{every}
 use Rattle.stock_frame.specs.Codec.{Codec}
 use Rattle.layout.specs.Bytes.{bytesOver}
@@ -18,7 +18,7 @@ use Rattle.stock_notices.specs.declared.NoticeReading.{NoticeReading}
 abbrev pub fiveCells : ℕ → List Cell
 fiveCells n = digits 2 ∷ replicate n raw
 
--- row 13: the category is 00, 09, 90 or 99
+-- check 13: the category is 00, 09, 90 or 99
 abbrev pub fiveRuled : List ℕ → Bool
 fiveRuled vs = let c = getD vs 0 0 in eqb c 0 || (eqb c 9 || (eqb c 90 || eqb c 99))
 
@@ -84,5 +84,5 @@ noNotice = record { seq = 0; category = 0; length = 0; text = replicate room 0 }
 unfoldable pub noticeReading : ℕ → List ℕ → NoticeReading
 noticeReading seq b = record {
   answer = bodyAnswer five seq b;
-  notice = cond (eqb (firstFail (bodyRows five b)) 0) (noticeOf seq (valuesOf five b)) noNotice;
+  notice = cond (eqb (firstFail (bodyChecks five b)) 0) (noticeOf seq (valuesOf five b)) noNotice;
 }

@@ -1,4 +1,4 @@
--- Reading a body: what each test tells of the rows, and the answer at each return.
+-- Reading a body: what each test tells of the checks, and the answer at each return.
 use Prim.Native.Nat.{ℕ, suc, _+_, _-_, _*_, _/_, _%_, _≤_, _<_}
 use mathlib.Core.Path.{_≡_, refl, sym, ap, ap₂, _∙_}
 use mathlib.Core.Bool.{Bool, true, false, cond, _&&_, and-true}
@@ -12,10 +12,10 @@ use Rattle.digits.specs.Packed.{two, goodByte, goodField}
 use Rattle.digits.proofs.Bools.{and-both}
 use Rattle.digits.proofs.PackedLaws.{two-lt}
 use Rattle.layout.specs.Cells.{raw, size, goodCells, decode}
-use Rattle.layout.specs.Rows.{firstFail}
-use Rattle.stock_frame.specs.Format.{valuesOf, bodyRows, bodyAnswer}
+use Rattle.layout.specs.Checks.{firstFail}
+use Rattle.stock_frame.specs.Format.{valuesOf, bodyChecks, bodyAnswer}
 use Rattle.layout.specs.Bytes.{bytesOver}
-use Rattle.layout.proofs.RowLaws.{pass}
+use Rattle.layout.proofs.CheckLaws.{pass}
 use Rattle.answers.specs.declared.Answer.{Answer}
 use Rattle.stock_notices.specs.Notices.{five, fiveRuled, room, noticeOf, noNotice, noticeReading}
 use Rattle.stock_notices.specs.declared.Notice.{Notice}
@@ -23,7 +23,7 @@ use Rattle.stock_notices.specs.declared.NoticeReading.{NoticeReading}
 use Rattle.stock_notices.proofs.RawLaws.{good-raws, decode-raws}
 use Rattle.stock_notices.proofs.NoticeLaws.{size-five, text-put}
 
--- ---- the rows
+-- ---- the checks
 -- a category's byte holds a field 9(2) where its halves are digits
 pub good-category : (x : ℕ) → goodField 2 (x ∷ []) ≡ goodByte x
 good-category x = go (goodByte x) refl
@@ -33,12 +33,12 @@ good-category x = go (goodByte x) refl
     go false e = refl
 
 -- a body too short
-pub row-short : (b : List ℕ) → length b < 1 → firstFail (bodyRows five b) ≡ 9
-row-short b h = rw (lt-leb 14 (13 + length b) (omega arith))
+pub check-short : (b : List ℕ) → length b < 1 → firstFail (bodyChecks five b) ≡ 9
+check-short b h = rw (lt-leb 14 (13 + length b) (omega arith))
 
 -- a body too long
-pub row-long : (b : List ℕ) → 61 < length b → firstFail (bodyRows five b) ≡ 9
-row-long b h = rw (le-leb 14 (13 + length b) (omega arith), lt-leb (13 + length b) 74 (omega arith))
+pub check-long : (b : List ℕ) → 61 < length b → firstFail (bodyChecks five b) ≡ 9
+check-long b h = rw (le-leb 14 (13 + length b) (omega arith), lt-leb (13 + length b) 74 (omega arith))
 
 -- a body that starts with the byte x
 module _ (x : ℕ) (t : List ℕ) where
@@ -60,13 +60,13 @@ module _ (x : ℕ) (t : List ℕ) where
   good-here : goodCells (five .cells (x ∷ t)) (x ∷ t) ≡ goodByte x
   good-here = rw (good-category x, good-raws) (and-true (goodByte x))
 
-  -- what is left of the rows within the range
-  pub rows-here : length t ≤ room → firstFail (bodyRows five (x ∷ t)) ≡ cond (goodByte x) (cond (fiveRuled (two x ∷ [])) 0 13) 11
-  rows-here h =
-      let rows = bodyRows five (x ∷ t) in
+  -- what is left of the checks within the range
+  pub checks-here : length t ≤ room → firstFail (bodyChecks five (x ∷ t)) ≡ cond (goodByte x) (cond (fiveRuled (two x ∷ [])) 0 13) 11
+  checks-here h =
+      let checks = bodyChecks five (x ∷ t) in
       let n = suc (length t) in
-      pass 9 (drop 1 rows) (and-both (le-leb 14 (13 + n) (omega arith)) (le-leb (13 + n) 74 (omega arith)))
-      ∙ pass 9 (drop 3 rows) (eq-eqb (size (five .cells (x ∷ t))) n size-here)
+      pass 9 (drop 1 checks) (and-both (le-leb 14 (13 + n) (omega arith)) (le-leb (13 + n) 74 (omega arith)))
+      ∙ pass 9 (drop 3 checks) (eq-eqb (size (five .cells (x ∷ t))) n size-here)
       ∙ ap₂ (λ (g u : Bool). cond g (cond {A = ℕ} u 0 13) 11) good-here (ap fiveRuled values-here)
 
 -- the numbers of a body, by its first byte
@@ -75,28 +75,28 @@ values-five [] l = absurd (omega arith)
 values-five (x ∷ t) l = values-here x t
 
 -- a body in range, by its first byte
-pub rows-five : (b : List ℕ) → 1 ≤ length b → length b ≤ 61
-    → firstFail (bodyRows five b) ≡ cond (goodByte (getD b 0 0)) (cond (fiveRuled (two (getD b 0 0) ∷ [])) 0 13) 11
-rows-five [] l h = absurd (omega arith)
-rows-five (x ∷ t) l h = rows-here x t (omega arith)
+pub checks-five : (b : List ℕ) → 1 ≤ length b → length b ≤ 61
+    → firstFail (bodyChecks five b) ≡ cond (goodByte (getD b 0 0)) (cond (fiveRuled (two (getD b 0 0) ∷ [])) 0 13) 11
+checks-five [] l h = absurd (omega arith)
+checks-five (x ∷ t) l h = checks-here x t (omega arith)
 
 -- ---- the answers
--- a refusal of a row that says the length
-pub read-refused : (k seq : ℕ) (b : List ℕ) (r : NoticeReading) → 5 < k → firstFail (bodyRows five b) ≡ k
+-- a refusal of a check that says the length
+pub read-refused : (k seq : ℕ) (b : List ℕ) (r : NoticeReading) → 5 < k → firstFail (bodyChecks five b) ≡ k
     → (r .answer ≡ Answer.Refused k (13 + length b)) × (r .notice ≡ noNotice) → r ≡ noticeReading seq b
 unfolding noticeReading bodyAnswer
 read-refused k seq b r h e p =
     rw (e, ne-eqb k 0 (λ z. omega arith), lt-leb k 5 h) (ap₂ (λ (a : Answer) (n : Notice). record { answer = a; notice = n }) (p .0) (p .1))
 
--- each row's test
+-- each check's test
 module _ (b : List ℕ) (l : 1 ≤ length b) (h : length b ≤ 61) where
   -- a bad high half
-  pub row-high : 9 < getD b 0 0 / 16 → firstFail (bodyRows five b) ≡ 11
-  row-high g = rows-five b l h ∙ rw (lt-leb (getD b 0 0 / 16) 9 g)
+  pub check-high : 9 < getD b 0 0 / 16 → firstFail (bodyChecks five b) ≡ 11
+  check-high g = checks-five b l h ∙ rw (lt-leb (getD b 0 0 / 16) 9 g)
 
   -- a bad low half
-  pub row-low : getD b 0 0 / 16 ≤ 9 → 9 < getD b 0 0 % 16 → firstFail (bodyRows five b) ≡ 11
-  row-low g k = rows-five b l h ∙ rw (le-leb (getD b 0 0 / 16) 9 g, lt-leb (getD b 0 0 % 16) 9 k)
+  pub check-low : getD b 0 0 / 16 ≤ 9 → 9 < getD b 0 0 % 16 → firstFail (bodyChecks five b) ≡ 11
+  check-low g k = checks-five b l h ∙ rw (le-leb (getD b 0 0 / 16) 9 g, lt-leb (getD b 0 0 % 16) 9 k)
 
   module _ (g : getD b 0 0 / 16 ≤ 9) (k : getD b 0 0 % 16 ≤ 9) where
     -- no bad half
@@ -104,16 +104,16 @@ module _ (b : List ℕ) (l : 1 ≤ length b) (h : length b ≤ 61) where
     good-first = and-both (le-leb (getD b 0 0 / 16) 9 g) (le-leb (getD b 0 0 % 16) 9 k)
 
     -- a category that is none of the four
-    pub row-unknown : fiveRuled (two (getD b 0 0) ∷ []) ≡ false → firstFail (bodyRows five b) ≡ 13
-    row-unknown u = rows-five b l h ∙ rw (good-first, u)
+    pub check-unknown : fiveRuled (two (getD b 0 0) ∷ []) ≡ false → firstFail (bodyChecks five b) ≡ 13
+    check-unknown u = checks-five b l h ∙ rw (good-first, u)
 
-    -- no row fails
-    pub row-none : fiveRuled (two (getD b 0 0) ∷ []) ≡ true → firstFail (bodyRows five b) ≡ 0
-    row-none u = rows-five b l h ∙ rw (good-first, u)
+    -- no check fails
+    pub check-none : fiveRuled (two (getD b 0 0) ∷ []) ≡ true → firstFail (bodyChecks five b) ≡ 0
+    check-none u = checks-five b l h ∙ rw (good-first, u)
 
 -- ---- acceptance: the notice of the first byte's number and of the bytes that follow it
--- the reading where no row fails
-pub read-accepted : (seq : ℕ) (b z t : List ℕ) → 1 ≤ length b → length b ≤ 61 → firstFail (bodyRows five b) ≡ 0
+-- the reading where no check fails
+pub read-accepted : (seq : ℕ) (b z t : List ℕ) → 1 ≤ length b → length b ≤ 61 → firstFail (bodyChecks five b) ≡ 0
     → z ≡ replicate room 0 → t ≡ bytesOver (take (length b - 1) (drop 1 b)) z 0
     → record {
       answer = Answer.Accepted (record { format = 5; seq = seq; length = 13 + length b });

@@ -7,8 +7,8 @@ use lib.ListN.{length, getD, take, drop, replicate}
 use lib.Dec.{eqb, leb, ltb}
 use Rattle.amounts.specs.Amounts.{asPrice, asQuantity}
 use Rattle.layout.specs.Cells.{Cell, raw, digits}
-use Rattle.layout.specs.Rows.{firstFail}
-use Rattle.stock_frame.specs.Format.{Format, valuesOf, bodyRows, bodyAnswer}
+use Rattle.layout.specs.Checks.{firstFail}
+use Rattle.stock_frame.specs.Format.{Format, valuesOf, bodyChecks, bodyAnswer}
 use Rattle.codes_times.specs.Times.{timeOfDay, nines, every, codeRight}
 use Rattle.stock_frame.specs.Codec.{Codec}
 use Rattle.stock_prices.specs.declared.Slot.{Slot}
@@ -61,11 +61,11 @@ abbrev pub slotsPass : (Bool → List ℕ → Bool) → ℕ → ℕ → List ℕ
 slotsPass p zero n vs = true
 slotsPass p (suc k) n vs = p (leb 1 n) (take slotSize vs) && slotsPass p k (n - 1) (drop slotSize vs)
 
--- row 12, for all ten slots
+-- check 12, for all ten slots
 abbrev pub twelveTimed : List ℕ → Bool
 twelveTimed vs = slotsPass slotTimed slotCount (getD vs 0 0) (drop 1 vs)
 
--- row 13: the count, and every slot
+-- check 13: the count, and every slot
 abbrev pub twelveRuled : List ℕ → Bool
 twelveRuled vs = (leb 1 (getD vs 0 0) && leb (getD vs 0 0) slotCount) && slotsPass slotRuled slotCount (getD vs 0 0) (drop 1 vs)
 
@@ -149,5 +149,5 @@ noPrices = record { seq = 0; count = 0; slots = replicate slotCount noSlot }
 unfoldable pub pricesReading : ℕ → List ℕ → PricesReading
 pricesReading seq b = record {
   answer = bodyAnswer twelve seq b;
-  prices = cond (eqb (firstFail (bodyRows twelve b)) 0) (pricesOf seq (valuesOf twelve b)) noPrices;
+  prices = cond (eqb (firstFail (bodyChecks twelve b)) 0) (pricesOf seq (valuesOf twelve b)) noPrices;
 }

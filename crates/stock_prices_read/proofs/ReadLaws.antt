@@ -1,4 +1,4 @@
--- What reading a body answers: the row that fails first, and the prices where every row holds.
+-- What reading a body answers: the check that fails first, and the prices where every check holds.
 use Prim.Native.Nat.{ℕ, _+_, _*_, _/_, _%_, _<_}
 use mathlib.Core.Path.{_≡_, refl, sym, ap, ap₂, _∙_}
 use mathlib.Core.Bool.{Bool, true, false, cond, _&&_, and-true}
@@ -12,12 +12,12 @@ use Rattle.digits.specs.Packed.{goodByte, goodField, value}
 use Rattle.digits.proofs.Bools.{and-both}
 use Rattle.digits.proofs.Values.{even-field}
 use Rattle.layout.specs.Cells.{size, goodCells, decode}
-use Rattle.layout.specs.Rows.{firstFail}
+use Rattle.layout.specs.Checks.{firstFail}
 use Rattle.answers.specs.Answers.{named}
 use Rattle.answers.specs.declared.Answer.{Answer}
 use Rattle.answers.specs.declared.Frame.{Frame}
-use Rattle.stock_frame.specs.Format.{ranged, bodyRows, bodyAnswer}
-use Rattle.stock_frame.proofs.BodyRowLaws.{fails-range, fails-digits, fails-times, fails-fields, fails-none}
+use Rattle.stock_frame.specs.Format.{ranged, bodyChecks, bodyAnswer}
+use Rattle.stock_frame.proofs.BodyCheckLaws.{fails-range, fails-digits, fails-times, fails-fields, fails-none}
 use Rattle.stock_prices.specs.declared.Slot.{Slot}
 use Rattle.stock_prices.specs.declared.PricesReading.{PricesReading}
 use Rattle.stock_prices.specs.Prices.{slotsPass, slotTimed, slotRuled, twelve, twelveCells, twelveRuled, pricesOf, noPrices, pricesReading}
@@ -30,14 +30,14 @@ use Rattle.stock_prices_read.proofs.SlotsRead.{goodFrom, slotsFrom, pas
 abbrev frame : ℕ → List ℕ → Frame
 frame seq b = record { format = 12; seq = seq; length = 13 + length b }
 
--- a reading by the number of the row that fails first
-reading-by : (seq : ℕ) (b : List ℕ) (n : ℕ) → firstFail (bodyRows twelve b) ≡ n
+-- a reading by the number of the check that fails first
+reading-by : (seq : ℕ) (b : List ℕ) (n : ℕ) → firstFail (bodyChecks twelve b) ≡ n
     → record { answer = named n (frame seq b); prices = cond (eqb n 0) (pricesOf seq (decode twelveCells b)) noPrices } ≡ pricesReading seq b
 unfolding pricesReading bodyAnswer
 reading-by seq b n e =
     ap (λ (k : ℕ). record { answer = named k (frame seq b); prices = cond (eqb k 0) (pricesOf seq (decode twelveCells b)) noPrices }) (sym e)
 
-pub refused-as : (seq : ℕ) (b : List ℕ) (n len : ℕ) → 5 < n → 13 + length b ≡ len → firstFail (bodyRows twelve b) ≡ n
+pub refused-as : (seq : ℕ) (b : List ℕ) (n len : ℕ) → 5 < n → 13 + length b ≡ len → firstFail (bodyChecks twelve b) ≡ n
     → (r : PricesReading) → r ≡ refusal n len → r ≡ pricesReading seq b
 refused-as seq b n len h e f r q =
     q ∙ ap (refusal n) (sym e)
@@ -56,7 +56,7 @@ module _ (b : List ℕ) where
   abbrev head : ℕ
   head = getD b 0 0
 
-  pub wrong-length : (length b ≡ 361 → ⊥) → firstFail (bodyRows twelve b) ≡ 9
+  pub wrong-length : (length b ≡ 361 → ⊥) → firstFail (bodyChecks twelve b) ≡ 9
   wrong-length h = fails-range twelve b (go (leb 374 (13 + length b)) refl)
     where
       go : (t : Bool) → leb 374 (13 + length b) ≡ t → (t && leb (13 + length b) 374) ≡ false
@@ -82,7 +82,7 @@ module _ (b : List ℕ) where
     good-is : goodCells twelveCells b ≡ (goodByte head && goodFrom b 10 1)
     good-is = ap (λ (t : Bool). t && goodFrom b 10 1) count-good
 
-    pub bad-count : goodByte head ≡ false → firstFail (bodyRows twelve b) ≡ 11
+    pub bad-count : goodByte head ≡ false → firstFail (bodyChecks twelve b) ≡ 11
     bad-count e = fails-digits twelve b in-range refl sized (good-is ∙ none (goodFrom b 10 1) e)
 
     -- the count
@@ -98,47 +98,47 @@ module _ (b : List ℕ) where
     ruled-is : twelveRuled (numbers b) ≡ ((leb 1 n && leb n 10) && passFrom b slotRuled 10 n 1)
     ruled-is = ap₂ (λ (k : ℕ) (t : Bool). (leb 1 k && leb k 10) && t) count-is (pass-is slotRuled)
 
-    -- where the count's digits are good, the row that fails is the one of what the slots told
+    -- where the count's digits are good, the check that fails is the one of what the slots told
     module _ (good-head : goodByte head ≡ true) where
       module _ (g : goodFrom b 10 1 ≡ true) where
         good-all : goodCells twelveCells b ≡ true
         good-all = good-is ∙ and-both good-head g
 
         module _ (t : passFrom b slotTimed 10 n 1 ≡ true) where
-          fields-told : (x : Bool) → ((leb 1 n && leb n 10) && passFrom b slotRuled 10 n 1) ≡ x → firstFail (bodyRows twelve b) ≡ cond x 0 13
+          fields-told : (x : Bool) → ((leb 1 n && leb n 10) && passFrom b slotRuled 10 n 1) ≡ x → firstFail (bodyChecks twelve b) ≡ cond x 0 13
           fields-told true f = fails-none twelve b in-range refl sized good-all (pass-is slotTimed ∙ t) (ruled-is ∙ f)
           fields-told false f = fails-fields twelve b in-range refl sized good-all (pass-is slotTimed ∙ t) (ruled-is ∙ f)
 
-      pub row-told : (g t r : Bool) → g ≡ goodFrom b 10 1 → (g ≡ true → (t ≡ passFrom b slotTimed 10 n 1) × (r ≡ passFrom b slotRuled 10 n 1))
-          → firstFail (bodyRows twelve b) ≡ rowOf g t n r
-      row-told false t r e f = fails-digits twelve b in-range refl sized (good-is ∙ later good-head (sym e))
-      row-told true false r e f = fails-times twelve b in-range refl sized (good-all (sym e)) (pass-is slotTimed ∙ sym (f refl .0))
-      row-told true true r e f =
+      pub check-told : (g t r : Bool) → g ≡ goodFrom b 10 1 → (g ≡ true → (t ≡ passFrom b slotTimed 10 n 1) × (r ≡ passFrom b slotRuled 10 n 1))
+          → firstFail (bodyChecks twelve b) ≡ rowOf g t n r
+      check-told false t r e f = fails-digits twelve b in-range refl sized (good-is ∙ later good-head (sym e))
+      check-told true false r e f = fails-times twelve b in-range refl sized (good-all (sym e)) (pass-is slotTimed ∙ sym (f refl .0))
+      check-told true true r e f =
           fields-told (sym e) (sym (f refl .0)) ((leb 1 n && leb n 10) && r) (ap (λ (x : Bool). (leb 1 n && leb n 10) && x) (sym (f refl .1)))
 
-    pub accepted : (seq : ℕ) (ss : List Slot) → ss ≡ slotsFrom b 10 1 → firstFail (bodyRows twelve b) ≡ 0 → acceptance seq n ss ≡ pricesReading seq b
+    pub accepted : (seq : ℕ) (ss : List Slot) → ss ≡ slotsFrom b 10 1 → firstFail (bodyChecks twelve b) ≡ 0 → acceptance seq n ss ≡ pricesReading seq b
     accepted seq ss e f =
         ap₂ (λ (len k : ℕ). record { answer = Answer.Accepted (record { format = 12; seq = seq; length = len }); prices = record { seq = seq; count = k; slots = ss } })
         (sym (ap (λ (k : ℕ). 13 + k) l)) (sym count-is)
         ∙ ap (λ (x : List Slot). record { answer = Answer.Accepted (frame seq b); prices = record { seq = seq; count = getD (numbers b) 0 0; slots = x } }) e
         ∙ reading-by seq b 0 f
 
--- ---- the rows that what the slots told can fail
-pub row-high : (g t : Bool) (n : ℕ) (r : Bool) → 0 < rowOf g t n r → 10 < rowOf g t n r
-row-high false t n r h = lit< tt
-row-high true false n r h = lit< tt
-row-high true true n r h = go ((leb 1 n && leb n 10) && r) h
+-- ---- the checks that what the slots told can fail
+pub check-high : (g t : Bool) (n : ℕ) (r : Bool) → 0 < rowOf g t n r → 10 < rowOf g t n r
+check-high false t n r h = lit< tt
+check-high true false n r h = lit< tt
+check-high true true n r h = go ((leb 1 n && leb n 10) && r) h
   where
     go : (x : Bool) → 0 < cond x 0 13 → 10 < cond x 0 13
     go true k = absurd (omega (arith, k))
     go false k = lit< tt
 
-pub row-fields : {g t : Bool} (n : ℕ) (r : Bool) → g ≡ true → t ≡ true → {x : Bool} → ((leb 1 n && leb n 10) && r) ≡ x → cond x 0 13 ≡ rowOf g t n r
-row-fields {g} {t} n r e f {x} h = sym (ap₂ (λ (u v : Bool). cond u (cond v (cond ((leb 1 n && leb n 10) && r) 0 13) 12) 11) e f ∙ ap (λ (y : Bool). cond y 0 13) h)
+pub check-fields : {g t : Bool} (n : ℕ) (r : Bool) → g ≡ true → t ≡ true → {x : Bool} → ((leb 1 n && leb n 10) && r) ≡ x → cond x 0 13 ≡ rowOf g t n r
+check-fields {g} {t} n r e f {x} h = sym (ap₂ (λ (u v : Bool). cond u (cond v (cond ((leb 1 n && leb n 10) && r) 0 13) 12) 11) e f ∙ ap (λ (y : Bool). cond y 0 13) h)
 
-pub row-good : (g t : Bool) (n : ℕ) (r : Bool) → rowOf g t n r ≡ 0 → g ≡ true
-row-good true t n r e = refl
-row-good false t n r e = cc
+pub check-good : (g t : Bool) (n : ℕ) (r : Bool) → rowOf g t n r ≡ 0 → g ≡ true
+check-good true t n r e = refl
+check-good false t n r e = cc
 
 -- ---- a digit
 pub under-ten : (d : ℕ) → ltb d 10 ≡ leb d 9

@@ -40,6 +40,6 @@ figuresOf b at = record {
 abbrev pub figuresAt : List ℕ → ℕ → FiguresField
 figuresAt b at = cond (figuresGood b at) (FiguresField.Is (figuresOf b at)) FiguresField.Bad
 
--- the row that fails first, or 0: the slots' digits, their times, the count and the slots' fields
+-- the check that fails first, or 0: the slots' digits, their times, the count and the slots' fields
 abbrev pub rowOf : Bool → Bool → ℕ → Bool → ℕ
 rowOf good timed n ruled = cond good (cond timed (cond ((leb 1 n && leb n 10) && ruled) 0 13) 12) 11

@@ -32,7 +32,7 @@ pub(crate) enum FiguresField {
     Bad,
 }
 
-// A slot, and whether rows 12 and 13 hold of it; where a digit is bad only that is said.
+// A slot, and whether checks 12 and 13 hold of it; where a digit is bad only that is said.
 pub(crate) struct SlotField {
     pub good: bool,
     pub timed: bool,

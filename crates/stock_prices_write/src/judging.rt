@@ -27,7 +27,7 @@ fn time_timed(t: u64, counted: bool) -> bool
     time_right(hhmm as u32, (t % ABOVE_EIGHT) as u32, counted)
 }
 
-// Row 12: every slot's time, of which the first n slots are counted.
+// Check 12: every slot's time, of which the first n slots are counted.
 fn timed(slots: [Slot; 10], n: usize) -> bool
     ensures { λ r. ⌜ r ≡ slotsPass slotTimed 10 n (slotsValues slots) ⌝ }
 {
@@ -42,7 +42,7 @@ fn timed(slots: [Slot; 10], n: usize) -> bool
     true
 }
 
-// Row 13 for every slot, of which the first n are counted.
+// Check 13 for every slot, of which the first n are counted.
 fn ruled(slots: [Slot; 10], n: usize) -> bool
     ensures { λ r. ⌜ r ≡ slotsPass slotRuled 10 n (slotsValues slots) ⌝ }
 {

@@ -185,7 +185,7 @@ module _ (seq k : ℕ) (vs : List ℕ)
     asks-long = length-padded (askPart q ps) (q .asks) length-askPart (asks-few q levels);
   }
 
--- ---- of a body that passes its rows
+-- ---- of a body that passes its checks
 module _ (b : List ℕ) (o : Bodied six b) where
   many-numbers : length (drop 11 (valuesOf six b)) ≡ 2 * pairCount (revealed (revealOf (valuesOf six b)))
   many-numbers =

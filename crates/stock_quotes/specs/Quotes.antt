@@ -8,8 +8,8 @@ use lib.Dec.{eqb}
 use Rattle.amounts.specs.Amounts.{asPrice, asQuantity}
 use Rattle.amounts.specs.declared.Pair.{Pair}
 use Rattle.layout.specs.Cells.{Cell, raw, digits, size, decode}
-use Rattle.layout.specs.Rows.{firstFail}
-use Rattle.stock_frame.specs.Format.{Format, valuesOf, bodyRows, bodyAnswer}
+use Rattle.layout.specs.Checks.{firstFail}
+use Rattle.stock_frame.specs.Format.{Format, valuesOf, bodyChecks, bodyAnswer}
 use Rattle.codes_times.specs.Times.{timeOfDay, nines, every, codeRight, zeroCode}
 use Rattle.stock_frame.specs.Codec.{Codec}
 use Rattle.stock_quotes.specs.declared.Quote.{Quote}
@@ -176,5 +176,5 @@ noQuote = record {
 unfoldable pub quoteReading : ℕ → List ℕ → QuoteReading
 quoteReading seq b = record {
   answer = bodyAnswer six seq b;
-  quote = cond (eqb (firstFail (bodyRows six b)) 0) (quoteOf seq (valuesOf six b)) noQuote;
+  quote = cond (eqb (firstFail (bodyChecks six b)) 0) (quoteOf seq (valuesOf six b)) noQuote;
 }

@@ -14,8 +14,8 @@ use Rattle.amounts.specs.declared.Pair.{Pair}
 use Rattle.amounts.specs.declared.Quantity.{Quantity}
 use Rattle.digits.proofs.Bools.{and-both}
 use Rattle.layout.specs.Cells.{goodCells, decode}
-use Rattle.layout.specs.Rows.{firstFail}
-use Rattle.stock_frame.specs.Format.{valuesOf, ranged, bodyRows, around}
+use Rattle.layout.specs.Checks.{firstFail}
+use Rattle.stock_frame.specs.Format.{valuesOf, ranged, bodyChecks, around}
 use Rattle.codes_times.specs.Times.{codeRight}
 use Rattle.layout.proofs.CellLaws.{length-decode}
 use Rattle.codes_times.proofs.RuleLaws.{six-bytes}
@@ -103,7 +103,7 @@ module _ (seq : ℕ) (b : List ℕ) (r : Reveal) (d : Dictated b r) where
       pub code-fails : codeRight (take 6 b) ≡ false → refusedReading 13 (length b + 13) ≡ quoteReading seq b
       code-fails e = reading-by seq b 13 (rw (ranges, levels-hold, size-holds, good-is ∙ g, t, ap codeRight code-is ∙ e))
 
-      all-hold : codeRight (take 6 b) ≡ true → firstFail (bodyRows six b) ≡ 0
+      all-hold : codeRight (take 6 b) ≡ true → firstFail (bodyChecks six b) ≡ 0
       all-hold e = rw (ranges, levels-hold, size-holds, good-is ∙ g, t, ap codeRight code-is ∙ e)
 
   -- ---- the message

@@ -19,9 +19,9 @@ use Rattle.digits.proofs.PackedLaws.{value-parts}
 use Rattle.digits.proofs.Places.{inside}
 use Rattle.digits.proofs.Values.{even-field}
 use Rattle.layout.specs.Cells.{goodCells, decode}
-use Rattle.layout.specs.Rows.{firstFail}
+use Rattle.layout.specs.Checks.{firstFail}
 use Rattle.answers.specs.Answers.{named}
-use Rattle.stock_frame.specs.Format.{valuesOf, bodyRows, bodyAnswer, around}
+use Rattle.stock_frame.specs.Format.{valuesOf, bodyChecks, bodyAnswer, around}
 use Rattle.answers.specs.declared.Frame.{Frame}
 use Rattle.digits.proofs.TestLaws.{holds}
 use Rattle.stock_quotes.specs.declared.QuoteReading.{QuoteReading}
@@ -83,7 +83,7 @@ module _ (seq : ℕ) (b : List ℕ) where
   abbrev readingOf : ℕ → QuoteReading
   readingOf k = record { answer = named k frame; quote = cond (eqb k 0) (quoteOf seq (valuesOf six b)) noQuote }
 
-  pub reading-by : (k : ℕ) → firstFail (bodyRows six b) ≡ k → readingOf k ≡ quoteReading seq b
+  pub reading-by : (k : ℕ) → firstFail (bodyChecks six b) ≡ k → readingOf k ≡ quoteReading seq b
   unfolding quoteReading bodyAnswer
   reading-by k e =
       let w : length b + 13 ≡ around + length b = omega arith in

@@ -3,11 +3,11 @@ use mathlib.Core.Path.{refl}
 use Rattle.stock_quotes.specs.Reveal.{levelsRight}
 use Rattle.stock_quotes.specs.Quotes.{pairCells}
 use Rattle.stock_prices.specs.Prices.{slotsCells}
-use Rattle.stock_reading.specs.Reading.{formatOf, rows, answerOf, messageBy}
+use Rattle.stock_reading.specs.Reading.{formatOf, checks, answerOf, messageBy}
 use Rattle.stock_reading.specs.Edges.{Edges}
 
 pub edges-hold : Edges
-unfolding formatOf rows answerOf messageBy levelsRight pairCells slotsCells
+unfolding formatOf checks answerOf messageBy levelsRight pairCells slotsCells
 edges-hold = record {
   no-bytes = refl;
   two-bytes = refl;

@@ -9,19 +9,19 @@ use lib.Dec.{eqb}
 use borrow.Author.Tests.{eq-eqb, ne-eqb, eqb-true}
 use Rattle.digits.proofs.Bools.{and-both}
 use Rattle.digits.proofs.TestLaws.{holds}
-use Rattle.layout.specs.Rows.{Row, must, firstFail}
+use Rattle.layout.specs.Checks.{Check, must, firstFail}
 use Rattle.answers.specs.Answers.{named}
 use Rattle.stock_frame.specs.Outline.{format, version, number}
-use Rattle.stock_frame.specs.Format.{Format, bodyRows, bodyAnswer, around}
+use Rattle.stock_frame.specs.Format.{Format, bodyChecks, bodyAnswer, around}
 use Rattle.answers.specs.declared.Frame.{Frame}
 use Rattle.answers.specs.declared.Answer.the-variants.{Refused}
-use Rattle.layout.proofs.RowLaws.{row-holds, rows-after}
+use Rattle.layout.proofs.CheckLaws.{check-holds, checks-after}
 use Rattle.stock_frame.proofs.FormatsLaws.{Listed, here, later, Named, listed-named, one-small, NoneIs, none-listed}
 use Rattle.stock_notices.specs.Notices.{five}
 use Rattle.stock_quotes.specs.Quotes.{six}
 use Rattle.stock_prices.specs.Prices.{twelve}
 use Rattle.stock_halts.specs.Halts.{nineteen}
-use Rattle.stock_reading.specs.Reading.{formats, formatOf, isFormat, kindRows}
+use Rattle.stock_reading.specs.Reading.{formats, formatOf, isFormat, kindChecks}
 use Rattle.stock_reading.specs.Steps.{kindOf, afterOutline}
 
 -- ---- the formats, each by its place in the list
@@ -52,43 +52,43 @@ module _ (F : Format) (listed : Listed F formats) where
   same-version = ap (λ (G : Format). G .version) same-format
 
 -- ---- the checks on the header
-module _ (bu fm ve : ℕ) (more : List Row) where
+module _ (bu fm ve : ℕ) (more : List Check) where
   abbrev known : Bool
   known = eqb bu 1 && isFormat fm
 
-  header-seven : known ≡ false → firstFail (kindRows bu fm ve ++ more) ≡ 7
+  header-seven : known ≡ false → firstFail (kindChecks bu fm ve ++ more) ≡ 7
   header-seven e = rw e
 
-  header-eight : known ≡ true → eqb ve (formatOf fm .version) ≡ false → firstFail (kindRows bu fm ve ++ more) ≡ 8
+  header-eight : known ≡ true → eqb ve (formatOf fm .version) ≡ false → firstFail (kindChecks bu fm ve ++ more) ≡ 8
   header-eight e v = rw (e, v)
 
-  header-passes : known ≡ true → eqb ve (formatOf fm .version) ≡ true → firstFail (kindRows bu fm ve ++ more) ≡ firstFail more
+  header-passes : known ≡ true → eqb ve (formatOf fm .version) ≡ true → firstFail (kindChecks bu fm ve ++ more) ≡ firstFail more
   header-passes e v = rw (e, v)
 
-  pub header-holds : firstFail (kindRows bu fm ve ++ more) ≡ 0 → (bu ≡ 1) × (isFormat fm ≡ true) × (ve ≡ formatOf fm .version)
+  pub header-holds : firstFail (kindChecks bu fm ve ++ more) ≡ 0 → (bu ≡ 1) × (isFormat fm ≡ true) × (ve ≡ formatOf fm .version)
   header-holds p =
       let right = must 8 (eqb ve (formatOf fm .version)) ∷ more in
-      let named = row-holds 6 known right p in (
+      let named = check-holds 6 known right p in (
         eqb-true bu 1 (holds (eqb bu 1 ∷ isFormat fm ∷ []) named 0),
         holds (eqb bu 1 ∷ isFormat fm ∷ []) named 1,
-        eqb-true ve (formatOf fm .version) (row-holds 7 (eqb ve (formatOf fm .version)) more (rows-after 6 known right p)),
+        eqb-true ve (formatOf fm .version) (check-holds 7 (eqb ve (formatOf fm .version)) more (checks-after 6 known right p)),
       )
 
 -- the header of a format passes, and its body's checks are left
 pub header-known : (F : Format) → Listed F formats → (b : List ℕ)
-    → firstFail (kindRows 1 (F .number) (F .version) ++ bodyRows (formatOf (F .number)) b) ≡ firstFail (bodyRows F b)
+    → firstFail (kindChecks 1 (F .number) (F .version) ++ bodyChecks (formatOf (F .number)) b) ≡ firstFail (bodyChecks F b)
 header-known F listed b =
-    header-passes 1 (F .number) (F .version) (bodyRows (formatOf (F .number)) b) (named-format F listed .is-one)
+    header-passes 1 (F .number) (F .version) (bodyChecks (formatOf (F .number)) b) (named-format F listed .is-one)
     (eq-eqb (F .version) (formatOf (F .number) .version) (sym (same-version F listed)))
-    ∙ ap (λ (G : Format). firstFail (bodyRows G b)) (same-format F listed)
+    ∙ ap (λ (G : Format). firstFail (bodyChecks G b)) (same-format F listed)
 
 -- ---- what a header's six digits answer, and the body behind them
 module _ (kind seq : ℕ) (b : List ℕ) where
   abbrev frame : Frame
   frame = record { format = kind / 100 % 100; seq = seq; length = around + length b }
 
-  abbrev checks : List Row
-  checks = bodyRows (formatOf (kind / 100 % 100)) b
+  abbrev checks : List Check
+  checks = bodyChecks (formatOf (kind / 100 % 100)) b
 
   -- they name no format under business 01
   pub kind-seven : NoneIs (kind / 100) formats → Refused 7 (around + length b) ≡ afterOutline kind seq b
@@ -130,4 +130,4 @@ module _ (kind seq : ℕ) (b : List ℕ) where
         let ve : kind % 100 ≡ F .version = omega arith in
         ap (λ (n : ℕ). named n (record { format = F .number; seq = seq; length = around + length b }))
         (sym (header-known F listed b))
-        ∙ (λ i. named (firstFail (kindRows (sym bu i) (sym fm i) (sym ve i) ++ bodyRows (formatOf (sym fm i)) b)) (record { format = sym fm i; seq = seq; length = around + length b }))
+        ∙ (λ i. named (firstFail (kindChecks (sym bu i) (sym fm i) (sym ve i) ++ bodyChecks (formatOf (sym fm i)) b)) (record { format = sym fm i; seq = seq; length = around + length b }))

@@ -7,7 +7,7 @@ use lib.Dec.{eqb}
 use lib.ListN.{take}
 use lib.Seq.{take-append-le}
 use Rattle.answers.specs.Answers.{answerNumber}
-use Rattle.layout.specs.Rows.{firstFail}
+use Rattle.layout.specs.Checks.{firstFail}
 use Rattle.stock_frame.specs.Outline.{lengthOf, own, body, business, format, version, number, outlineOf}
 use Rattle.stock_frame.specs.Format.{valuesOf}
 use Rattle.stock_frame.specs.Codec.{Codec}
@@ -17,7 +17,7 @@ use Rattle.stock_frame.specs.declared.head.Outline.{Outline}
 use Rattle.stock_frame.specs.declared.head.Outline.the-variants.{Whole, Not}
 use Rattle.stock_frame.proofs.OutlineLaws.{length-own, within-line}
 use Rattle.stock_frame.proofs.PartLaws.{whole-outlined, outline-more}
-use Rattle.stock_reading.specs.Reading.{rows, answerOf, messageBy}
+use Rattle.stock_reading.specs.Reading.{checks, answerOf, messageBy}
 use Rattle.stock_reading.specs.Steps.{afterOutline}
 use Rattle.stock_reading.proofs.ReadingLaws.{answer-not, message-not, answer-outlined}
 use Rattle.stock_reading.proofs.Trips.{answer-number}
@@ -45,8 +45,8 @@ module _ (t u : List ℕ) (settled : answerOf t ≡ NoFrame 2 → ⊥) where
           ∙ answer-outlined t (whole-outlined t h e .0)
       go (Not a) e = sym (answer-not (t ++ u) a (same-outline ∙ e)) ∙ answer-not t a e
 
-  same-rows : firstFail (rows (t ++ u)) ≡ firstFail (rows t)
-  same-rows = sym (answer-number (t ++ u)) ∙ ap answerNumber answer-more ∙ answer-number t
+  same-checks : firstFail (checks (t ++ u)) ≡ firstFail (checks t)
+  same-checks = sym (answer-number (t ++ u)) ∙ ap answerNumber answer-more ∙ answer-number t
 
   pub message-more : {M : Type 0} (C : Codec M) (none : M) → messageBy C none (t ++ u) ≡ messageBy C none t
   unfolding messageBy
@@ -54,6 +54,6 @@ module _ (t u : List ℕ) (settled : answerOf t ≡ NoFrame 2 → ⊥) where
     where
       go : (o : Outline) → outlineOf t ≡ o → messageBy C none (t ++ u) ≡ messageBy C none t
       go (Whole h) e = λ i.
-          cond (eqb (same-rows i) 0 && eqb (format (same-own h e i)) (C .form .number))
+          cond (eqb (same-checks i) 0 && eqb (format (same-own h e i)) (C .form .number))
           (C .message (number (same-own h e i)) (valuesOf (C .form) (body (same-own h e i)))) none
       go (Not a) e = sym (message-not (t ++ u) a (same-outline ∙ e) C none) ∙ message-not t a e C none

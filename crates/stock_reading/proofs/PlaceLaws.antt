@@ -7,9 +7,9 @@ use native.Mathlib.Omega.{arith}
 use lib.ListN.{length, take, drop, length-drop}
 use lib.Dec.{eqb}
 use borrow.Author.Tests.{eqb-false}
-use Rattle.layout.specs.Rows.{firstFail}
+use Rattle.layout.specs.Checks.{firstFail}
 use Rattle.stock_frame.specs.Outline.{lengthOf, own, business, format, version, number, headOf, outlineOf}
-use Rattle.stock_frame.specs.Format.{valuesOf, bodyRows, bodyAnswer}
+use Rattle.stock_frame.specs.Format.{valuesOf, bodyChecks, bodyAnswer}
 use Rattle.stock_frame.specs.Codec.{Codec}
 use Rattle.answers.specs.declared.Answer.{Answer}
 use Rattle.stock_frame.specs.declared.head.Head.{Head}
@@ -53,7 +53,7 @@ module _ (line : List ℕ) (at : ℕ) (w : Found-Whole) (s : WholeAt line at w) 
   module _ {M : Type 0} (C : Codec M) (none : M) (listed : Listed (C .form) formats) where
     pub whole-hit : w .kind ≡ kindOf (C .form)
         → (bodyAnswer (C .form) (w .seq) part ≡ answerOf bytes)
-        × (cond (eqb (firstFail (bodyRows (C .form) part)) 0) (C .message (w .seq) (valuesOf (C .form) part)) none ≡ messageBy C none bytes)
+        × (cond (eqb (firstFail (bodyChecks (C .form) part)) 0) (C .message (w .seq) (valuesOf (C .form) part)) none ≡ messageBy C none bytes)
     whole-hit e =
         let b = business-lt bytes outlined in
         let f = format-lt bytes outlined in
@@ -65,7 +65,7 @@ module _ (line : List ℕ) (at : ℕ) (w : Found-Whole) (s : WholeAt line at w) 
         let fm : format (own bytes) ≡ C .form .number = omega arith in
         let ve : version (own bytes) ≡ C .form .version = omega arith in (
           kind-hit (w .kind) (w .seq) part (C .form) listed e ∙ whole-answer,
-          (λ i. cond (eqb (firstFail (bodyRows (C .form) (s .body-there i))) 0) (C .message (seq-is i) (valuesOf (C .form) (s .body-there i))) none)
+          (λ i. cond (eqb (firstFail (bodyChecks (C .form) (s .body-there i))) 0) (C .message (seq-is i) (valuesOf (C .form) (s .body-there i))) none)
               ∙ message-hit C none listed bytes outlined bu fm ve,
         )
 
@@ -88,7 +88,7 @@ pub record KindFound {M : Type 0} (C : Codec M) (none : M) (line : List ℕ) (at
   pub in-line : w .end ≤ length line
   pub answers : bodyAnswer (C .form) (w .seq) (take (w .end - w .start) (drop (w .start) line)) ≡ answerOf (drop at line)
   pub means : let b = take (w .end - w .start) (drop (w .start) line) in
-      cond (eqb (firstFail (bodyRows (C .form) b)) 0) (C .message (w .seq) (valuesOf (C .form) b)) none ≡ messageBy C none (drop at line)
+      cond (eqb (firstFail (bodyChecks (C .form) b)) 0) (C .message (w .seq) (valuesOf (C .form) b)) none ≡ messageBy C none (drop at line)
 
 module _ {M : Type 0} (C : Codec M) (none : M) (listed : Listed (C .form) formats) (line : List ℕ) (at : ℕ) (r : Found) (said : kindSays r line at (kindOf (C .form))) where
   pub kind-found : (w : Found-Whole) → r ≡ At w → KindFound C none line at w

@@ -9,22 +9,22 @@ use lib.Dec.{eqb, leb, ltb}
 use borrow.Author.Tests.{eq-eqb, ne-eqb, eqb-true, ltb-true}
 use Rattle.digits.proofs.TestLaws.{holds}
 use Rattle.layout.specs.Cells.{fits}
-use Rattle.layout.specs.Rows.{Row, firstFail}
+use Rattle.layout.specs.Checks.{Check, firstFail}
 use Rattle.answers.specs.Answers.{named}
-use Rattle.stock_frame.specs.Outline.{lengthOf, own, body, business, format, version, number, outlineRows, kindCells, kindValues, outlineOf}
-use Rattle.stock_frame.specs.Format.{valuesOf, bodyRows}
+use Rattle.stock_frame.specs.Outline.{lengthOf, own, body, business, format, version, number, outlineChecks, kindCells, kindValues, outlineOf}
+use Rattle.stock_frame.specs.Format.{valuesOf, bodyChecks}
 use Rattle.stock_frame.specs.Codec.{Codec}
 use Rattle.answers.specs.declared.Frame.{Frame}
 use Rattle.answers.specs.declared.Answer.{Answer}
 use Rattle.answers.specs.declared.Answer.the-variants.{Refused}
 use Rattle.stock_frame.specs.declared.head.Outline.the-variants.{Not}
 use Rattle.layout.proofs.CellLaws.{fits-decode}
-use Rattle.layout.proofs.RowLaws.{firstFail-append}
+use Rattle.layout.proofs.CheckLaws.{firstFail-append}
 use Rattle.stock_frame.specs.Reads.{Outlined}
 use Rattle.stock_frame.proofs.FormatsLaws.{Listed}
 use Rattle.stock_frame.proofs.OutlineLaws.{outlined-passes, length-own, least-length, length-body}
 use Rattle.stock_frame.proofs.PartLaws.{not-outlined}
-use Rattle.stock_reading.specs.Reading.{formats, formatOf, kindRows, rows, answerOf, messageBy}
+use Rattle.stock_reading.specs.Reading.{formats, formatOf, kindChecks, checks, answerOf, messageBy}
 use Rattle.stock_reading.specs.Steps.{afterOutline}
 use Rattle.stock_reading.proofs.HeaderLaws.{same-version, header-known, header-holds}
 
@@ -60,21 +60,21 @@ module _ (t : List ℕ) (o : Outlined t) where
   pub kind-version : kind % 100 ≡ version f
   kind-version = omega (arith, business-lt, format-lt, version-lt)
 
-  abbrev after : List Row
-  after = kindRows (business f) (format f) (version f) ++ bodyRows (formatOf (format f)) (body f)
+  abbrev after : List Check
+  after = kindChecks (business f) (format f) (version f) ++ bodyChecks (formatOf (format f)) (body f)
 
-  pub rows-outlined : firstFail (rows t) ≡ firstFail after
-  unfolding rows
-  rows-outlined =
-      firstFail-append (outlineRows t) after refl
+  pub checks-outlined : firstFail (checks t) ≡ firstFail after
+  unfolding checks
+  checks-outlined =
+      firstFail-append (outlineChecks t) after refl
       ∙ ap (λ (n : ℕ). cond (eqb n 0) (firstFail after) n) (outlined-passes t o)
 
   pub answer-outlined : afterOutline kind (number f) (body f) ≡ answerOf t
   unfolding afterOutline answerOf
   answer-outlined =
-      (λ i. named (firstFail (kindRows (kind-business i) (kind-format i) (kind-version i) ++ bodyRows (formatOf (kind-format i)) (body f)))
+      (λ i. named (firstFail (kindChecks (kind-business i) (kind-format i) (kind-version i) ++ bodyChecks (formatOf (kind-format i)) (body f)))
       (record { format = kind-format i; seq = number f; length = length-body t o i }))
-      ∙ ap (λ (n : ℕ). named n (record { format = format f; seq = number f; length = lengthOf t })) (sym rows-outlined)
+      ∙ ap (λ (n : ℕ). named n (record { format = format f; seq = number f; length = lengthOf t })) (sym checks-outlined)
 
 -- ---- no whole outline
 -- a refusal says nothing of the frame but its length
@@ -83,26 +83,26 @@ named-refusal n f g h e =
     rw (ne-eqb n 0 h) (ap (λ (l : ℕ). cond (leb n 5) (Rattle.answers.specs.declared.Answer.the-variants.NoFrame n) (Refused n l)) e)
 
 module _ (t : List ℕ) (a : Answer) (e : outlineOf t ≡ Not a) where
-  rows-not : firstFail (rows t) ≡ firstFail (outlineRows t)
-  unfolding rows
-  rows-not =
-      firstFail-append (outlineRows t) (kindRows (business (own t)) (format (own t)) (version (own t)) ++ bodyRows (formatOf (format (own t))) (body (own t))) refl
-      ∙ ap (λ (b : Bool). cond b (firstFail (kindRows (business (own t)) (format (own t)) (version (own t)) ++ bodyRows (formatOf (format (own t))) (body (own t)))) (firstFail (outlineRows t)))
-      (ne-eqb (firstFail (outlineRows t)) 0 (not-outlined t a e .0))
+  checks-not : firstFail (checks t) ≡ firstFail (outlineChecks t)
+  unfolding checks
+  checks-not =
+      firstFail-append (outlineChecks t) (kindChecks (business (own t)) (format (own t)) (version (own t)) ++ bodyChecks (formatOf (format (own t))) (body (own t))) refl
+      ∙ ap (λ (b : Bool). cond b (firstFail (kindChecks (business (own t)) (format (own t)) (version (own t)) ++ bodyChecks (formatOf (format (own t))) (body (own t)))) (firstFail (outlineChecks t)))
+      (ne-eqb (firstFail (outlineChecks t)) 0 (not-outlined t a e .0))
 
   pub answer-not : a ≡ answerOf t
   unfolding answerOf
   answer-not =
       not-outlined t a e .1
-      ∙ named-refusal (firstFail (outlineRows t)) (record { format = 0; seq = 0; length = lengthOf t }) (record { format = format (own t); seq = number (own t); length = lengthOf t })
+      ∙ named-refusal (firstFail (outlineChecks t)) (record { format = 0; seq = 0; length = lengthOf t }) (record { format = format (own t); seq = number (own t); length = lengthOf t })
       (not-outlined t a e .0) refl
-      ∙ ap (λ (n : ℕ). named n (record { format = format (own t); seq = number (own t); length = lengthOf t })) (sym rows-not)
+      ∙ ap (λ (n : ℕ). named n (record { format = format (own t); seq = number (own t); length = lengthOf t })) (sym checks-not)
 
   pub message-not : {M : Type 0} (C : Codec M) (none : M) → none ≡ messageBy C none t
   unfolding messageBy
   message-not C none =
       sym (ap (λ (b : Bool). cond (b && eqb (format (own t)) (C .form .number)) (C .message (number (own t)) (valuesOf (C .form) (body (own t)))) none)
-      (ap (λ (n : ℕ). eqb n 0) rows-not ∙ ne-eqb (firstFail (outlineRows t)) 0 (not-outlined t a e .0)))
+      (ap (λ (n : ℕ). eqb n 0) checks-not ∙ ne-eqb (firstFail (outlineChecks t)) 0 (not-outlined t a e .0)))
 
 -- ---- the message of the format that is asked for
 module _ {M : Type 0} (C : Codec M) (none : M) (listed : Listed (C .form) formats) (t : List ℕ) (o : Outlined t) where
@@ -110,27 +110,27 @@ module _ {M : Type 0} (C : Codec M) (none : M) (listed : Listed (C .form) format
   given = C .message (number (own t)) (valuesOf (C .form) (body (own t)))
 
   module _ (bu : business (own t) ≡ 1) (fm : format (own t) ≡ C .form .number) (ve : version (own t) ≡ C .form .version) where
-    pub rows-body : firstFail (rows t) ≡ firstFail (bodyRows (C .form) (body (own t)))
-    rows-body =
-        rows-outlined t o
-        ∙ (λ i. firstFail (kindRows (bu i) (fm i) (ve i) ++ bodyRows (formatOf (fm i)) (body (own t))))
+    pub checks-body : firstFail (checks t) ≡ firstFail (bodyChecks (C .form) (body (own t)))
+    checks-body =
+        checks-outlined t o
+        ∙ (λ i. firstFail (kindChecks (bu i) (fm i) (ve i) ++ bodyChecks (formatOf (fm i)) (body (own t))))
         ∙ header-known (C .form) listed (body (own t))
 
-    pub message-hit : cond (eqb (firstFail (bodyRows (C .form) (body (own t)))) 0) given none ≡ messageBy C none t
+    pub message-hit : cond (eqb (firstFail (bodyChecks (C .form) (body (own t)))) 0) given none ≡ messageBy C none t
     unfolding messageBy
     message-hit =
-        sym (ap₂ (λ (n : ℕ) (b : Bool). cond (eqb n 0 && b) given none) rows-body (eq-eqb (format (own t)) (C .form .number) fm)
-        ∙ ap (λ (b : Bool). cond b given none) (and-true (eqb (firstFail (bodyRows (C .form) (body (own t)))) 0)))
+        sym (ap₂ (λ (n : ℕ) (b : Bool). cond (eqb n 0 && b) given none) checks-body (eq-eqb (format (own t)) (C .form .number) fm)
+        ∙ ap (λ (b : Bool). cond b given none) (and-true (eqb (firstFail (bodyChecks (C .form) (body (own t)))) 0)))
 
   pub message-miss : ((business (own t) ≡ 1) × (format (own t) ≡ C .form .number) × (version (own t) ≡ C .form .version) → ⊥) → none ≡ messageBy C none t
   unfolding messageBy
-  message-miss h = go (eqb (firstFail (rows t)) 0 && eqb (format (own t)) (C .form .number)) refl
+  message-miss h = go (eqb (firstFail (checks t)) 0 && eqb (format (own t)) (C .form .number)) refl
     where
-      go : (x : Bool) → (eqb (firstFail (rows t)) 0 && eqb (format (own t)) (C .form .number)) ≡ x → none ≡ cond x given none
+      go : (x : Bool) → (eqb (firstFail (checks t)) 0 && eqb (format (own t)) (C .form .number)) ≡ x → none ≡ cond x given none
       go false e = refl
       go true e =
-          let tests = eqb (firstFail (rows t)) 0 ∷ eqb (format (own t)) (C .form .number) ∷ [] in
-          let z = eqb-true (firstFail (rows t)) 0 (holds tests e 0) in
+          let tests = eqb (firstFail (checks t)) 0 ∷ eqb (format (own t)) (C .form .number) ∷ [] in
+          let z = eqb-true (firstFail (checks t)) 0 (holds tests e 0) in
           let fm = eqb-true (format (own t)) (C .form .number) (holds tests e 1) in
-          let hold = header-holds (business (own t)) (format (own t)) (version (own t)) (bodyRows (formatOf (format (own t))) (body (own t))) (sym (rows-outlined t o) ∙ z) in
+          let hold = header-holds (business (own t)) (format (own t)) (version (own t)) (bodyChecks (formatOf (format (own t))) (body (own t))) (sym (checks-outlined t o) ∙ z) in
           absurd (h (hold .0, fm, hold .2 ∙ ap (λ (n : ℕ). formatOf n .version) fm ∙ same-version (C .form) listed))

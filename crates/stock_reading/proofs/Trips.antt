@@ -7,21 +7,21 @@ use mathlib.Core.Logic.{_↔_}
 use lib.ListN.{length, drop}
 use lib.Dec.{eqb, leb}
 use borrow.Author.Tests.{eqb-true, le-leb}
-use Rattle.layout.specs.Rows.{firstFail}
+use Rattle.layout.specs.Checks.{firstFail}
 use Rattle.answers.specs.Answers.{named, answerNumber, answerValues}
-use Rattle.stock_frame.specs.Outline.{lengthOf, own, body, business, format, version, number, outlineRows, outlineOf}
-use Rattle.stock_frame.specs.Format.{valuesOf, bodyRows}
+use Rattle.stock_frame.specs.Outline.{lengthOf, own, body, business, format, version, number, outlineChecks, outlineOf}
+use Rattle.stock_frame.specs.Format.{valuesOf, bodyChecks}
 use Rattle.stock_frame.specs.Writing.{writtenOver}
 use Rattle.stock_frame.specs.Codec.{Codec, frameOf}
 use Rattle.answers.specs.declared.Frame.{Frame}
 use Rattle.answers.specs.declared.Answer.the-variants.{Accepted, NoFrame, Refused}
-use Rattle.layout.proofs.RowLaws.{numbered, firstFail-append}
+use Rattle.layout.proofs.CheckLaws.{numbered, firstFail-append}
 use Rattle.stock_frame.specs.declared.head.Outline.{Outline}
 use Rattle.stock_frame.specs.declared.head.Outline.the-variants.{Whole, Not}
-use Rattle.stock_frame.specs.Checks.{allHold}
+use Rattle.layout.specs.Checks.{allHold}
 use Rattle.stock_frame.specs.Reads.{Outlined, Reads}
 use Rattle.stock_frame.specs.Figures.{outlineNumber, outlineValues, beside}
-use Rattle.stock_frame.proofs.CheckLaws.{none-fails, all-hold}
+use Rattle.layout.proofs.CheckLaws.{none-fails, all-hold}
 use Rattle.stock_frame.proofs.FigureLaws.{number-named, values-named, fails-at-most}
 use Rattle.stock_frame.proofs.FormatsLaws.{Listed}
 use Rattle.stock_frame.proofs.OutlineLaws.{passes-outlined, length-own}
@@ -35,15 +35,15 @@ use Rattle.stock_prices.specs.Prices.{twelveCodec, noPrices, ShapedPrices}
 use Rattle.stock_prices.proofs.PriceLaws.{prices-lawful}
 use Rattle.stock_halts.specs.Halts.{nineteenCodec, noHalt, ShapedHalt}
 use Rattle.stock_halts.proofs.HaltLaws.{halts-lawful}
-use Rattle.stock_reading.specs.Reading.{formats, formatOf, isFormat, kindRows, rows, answerOf, messageBy}
+use Rattle.stock_reading.specs.Reading.{formats, formatOf, isFormat, kindChecks, checks, answerOf, messageBy}
 use Rattle.stock_reading.specs.Trips.{AnswerSays, Trips}
 use Rattle.stock_reading.proofs.HeaderLaws.{five-listed, six-listed, twelve-listed, nineteen-listed, same-version, header-holds}
-use Rattle.stock_reading.proofs.ReadingLaws.{rows-body, message-hit, rows-outlined, answer-not}
+use Rattle.stock_reading.proofs.ReadingLaws.{checks-body, message-hit, checks-outlined, answer-not}
 
 -- ---- an answer's number is the first check that fails, and only acceptance has none
-pub answer-number : (t : List ℕ) → answerNumber (answerOf t) ≡ firstFail (rows t)
+pub answer-number : (t : List ℕ) → answerNumber (answerOf t) ≡ firstFail (checks t)
 unfolding answerOf
-answer-number t = number-named (firstFail (rows t)) (record { format = format (own t); seq = number (own t); length = lengthOf t })
+answer-number t = number-named (firstFail (checks t)) (record { format = format (own t); seq = number (own t); length = lengthOf t })
 
 named-accepted : (n : ℕ) (f g : Frame) → named n f ≡ Accepted g → f ≡ g
 named-accepted n f g e = go (eqb n 0) (leb n 5) e
@@ -54,40 +54,40 @@ named-accepted n f g e = go (eqb n 0) (leb n 5) e
     go false false q = cc
 
 -- no check answers 0
-rows-numbered : (t : List ℕ) → numbered (rows t) ≡ true
-unfolding rows
-rows-numbered t = refl
+checks-numbered : (t : List ℕ) → numbered (checks t) ≡ true
+unfolding checks
+checks-numbered t = refl
 
 -- a frame is accepted exactly when every check of the rules' table holds
-pub accepted-exactly : (t : List ℕ) → (answerNumber (answerOf t) ≡ 0) ↔ allHold (rows t)
-accepted-exactly t = (λ p. all-hold (rows t) (rows-numbered t) (sym (answer-number t) ∙ p), λ h. answer-number t ∙ none-fails (rows t) h)
+pub accepted-exactly : (t : List ℕ) → (answerNumber (answerOf t) ≡ 0) ↔ allHold (checks t)
+accepted-exactly t = (λ p. all-hold (checks t) (checks-numbered t) (sym (answer-number t) ∙ p), λ h. answer-number t ∙ none-fails (checks t) h)
 
-rows-apart : (t : List ℕ) → firstFail (rows t) ≡ 0 → Outlined t
-unfolding rows
-rows-apart t p =
-    let after = kindRows (business (own t)) (format (own t)) (version (own t)) ++ bodyRows (formatOf (format (own t))) (body (own t)) in
-    passes-outlined t (go (firstFail (outlineRows t)) (firstFail after) (eqb (firstFail (outlineRows t)) 0) refl (sym (firstFail-append (outlineRows t) after refl) ∙ p))
+checks-apart : (t : List ℕ) → firstFail (checks t) ≡ 0 → Outlined t
+unfolding checks
+checks-apart t p =
+    let after = kindChecks (business (own t)) (format (own t)) (version (own t)) ++ bodyChecks (formatOf (format (own t))) (body (own t)) in
+    passes-outlined t (go (firstFail (outlineChecks t)) (firstFail after) (eqb (firstFail (outlineChecks t)) 0) refl (sym (firstFail-append (outlineChecks t) after refl) ∙ p))
   where
     go : (n m : ℕ) (x : Bool) → eqb n 0 ≡ x → cond x m n ≡ 0 → n ≡ 0
     go n m true e q = eqb-true n 0 e
     go n m false e q = q
 
 -- the header of an accepted frame names a format and its version
-header-accepted : (t : List ℕ) → firstFail (rows t) ≡ 0
+header-accepted : (t : List ℕ) → firstFail (checks t) ≡ 0
     → (business (own t) ≡ 1) × (isFormat (format (own t)) ≡ true) × (version (own t) ≡ formatOf (format (own t)) .version)
 header-accepted t z =
-    header-holds (business (own t)) (format (own t)) (version (own t)) (bodyRows (formatOf (format (own t))) (body (own t)))
-    (sym (rows-outlined t (rows-apart t z)) ∙ z)
+    header-holds (business (own t)) (format (own t)) (version (own t)) (bodyChecks (formatOf (format (own t))) (body (own t)))
+    (sym (checks-outlined t (checks-apart t z)) ∙ z)
 
 -- ---- the answer to any bytes
-rows-at-most : (t : List ℕ) → firstFail (rows t) ≤ 13
-unfolding rows
-rows-at-most t = fails-at-most 13 (rows t) refl
+checks-at-most : (t : List ℕ) → firstFail (checks t) ≤ 13
+unfolding checks
+checks-at-most t = fails-at-most 13 (checks t) refl
 
 answer-values : (t : List ℕ) → answerValues (answerOf t) ≡ beside (answerNumber (answerOf t)) (format (own t) ∷ number (own t) ∷ lengthOf t ∷ []) (lengthOf t)
 unfolding answerOf
 answer-values t =
-    values-named (firstFail (rows t)) (record { format = format (own t); seq = number (own t); length = lengthOf t })
+    values-named (firstFail (checks t)) (record { format = format (own t); seq = number (own t); length = lengthOf t })
     ∙ ap (λ (n : ℕ). beside n (format (own t) ∷ number (own t) ∷ lengthOf t ∷ []) (lengthOf t)) (sym (answer-number t))
 
 pub answer-says : (t : List ℕ) → AnswerSays t
@@ -95,7 +95,7 @@ answer-says t = record {
   exactly = accepted-exactly t;
   format-is = λ p. header-accepted t (sym (answer-number t) ∙ p) .1;
   first = answer-number t;
-  at-most = rw (answer-number t) (rows-at-most t);
+  at-most = rw (answer-number t) (checks-at-most t);
   values = answer-values t;
 }
 
@@ -117,7 +117,7 @@ module _ {M : Type 0} (C : Codec M) (Shaped : M → Type 0) (law : Lawful C Shap
       → (answerOf t ≡ Accepted (record { format = C .form .number; seq = number (own t); length = lengthOf t })) × (messageBy C none t ≡ m)
   unfolding answerOf
   reads-accepted t m rd =
-      let zero = rows-body C none listed t (rd .outlined) (rd .is-business) (rd .is-format) (rd .is-version) ∙ bodied-passes (C .form) (body (own t)) (rd .bodied) in
+      let zero = checks-body C none listed t (rd .outlined) (rd .is-business) (rd .is-format) (rd .is-version) ∙ bodied-passes (C .form) (body (own t)) (rd .bodied) in
       let hit = message-hit C none listed t (rd .outlined) (rd .is-business) (rd .is-format) (rd .is-version) in (
         (λ i. named (zero i) (record { format = rd .is-format i; seq = number (own t); length = lengthOf t })),
         sym hit ∙ ap (λ (n : ℕ). cond (eqb n 0) (C .message (number (own t)) (valuesOf (C .form) (body (own t)))) none) (bodied-passes (C .form) (body (own t)) (rd .bodied)) ∙ sym (rd .meant),
@@ -126,14 +126,14 @@ module _ {M : Type 0} (C : Codec M) (Shaped : M → Type 0) (law : Lawful C Shap
   pub accepted-reads : (t : List ℕ) (f : Frame) → answerOf t ≡ Accepted f → f .format ≡ C .form .number → Reads C t (messageBy C none t)
   unfolding answerOf
   accepted-reads t f e n =
-      let z : firstFail (rows t) ≡ 0 = sym (answer-number t) ∙ ap answerNumber e in
-      let o = rows-apart t z in
+      let z : firstFail (checks t) ≡ 0 = sym (answer-number t) ∙ ap answerNumber e in
+      let o = checks-apart t z in
       let fm : format (own t) ≡ C .form .number =
-      ap (λ (x : Frame). x .format) (named-accepted (firstFail (rows t)) (record { format = format (own t); seq = number (own t); length = lengthOf t }) f e) ∙ n in
+      ap (λ (x : Frame). x .format) (named-accepted (firstFail (checks t)) (record { format = format (own t); seq = number (own t); length = lengthOf t }) f e) ∙ n in
       let h = header-accepted t z in
       let bu = h .0 in
       let ve = h .2 ∙ ap (λ (x : ℕ). formatOf x .version) fm ∙ same-version (C .form) listed in
-      let bz : firstFail (bodyRows (C .form) (body (own t))) ≡ 0 = sym (rows-body C none listed t o bu fm ve) ∙ z in
+      let bz : firstFail (bodyChecks (C .form) (body (own t))) ≡ 0 = sym (checks-body C none listed t o bu fm ve) ∙ z in
       record {
         outlined = o;
         is-business = bu;

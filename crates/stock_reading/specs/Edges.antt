@@ -1,4 +1,4 @@
--- The starred edges of the paper that concern frames, as one list.
+-- The starred edges of the owner's paper that concern frames, as one list.
 use Prim.Native.Nat.{ℕ, _+_}
 use mathlib.Core.Path.{_≡_}
 use mathlib.Core.List.{List, [], _∷_}

@@ -4,10 +4,10 @@ use mathlib.Core.Bool.{Bool, cond, _&&_}
 use mathlib.Core.List.{List, [], _∷_, _++_}
 use lib.ListN.{length}
 use lib.Dec.{eqb}
-use Rattle.layout.specs.Rows.{Row, must, firstFail}
+use Rattle.layout.specs.Checks.{Check, must, firstFail}
 use Rattle.answers.specs.Answers.{named}
-use Rattle.stock_frame.specs.Outline.{lengthOf, own, body, business, format, version, number, outlineRows}
-use Rattle.stock_frame.specs.Format.{Format, valuesOf, bodyRows}
+use Rattle.stock_frame.specs.Outline.{lengthOf, own, body, business, format, version, number, outlineChecks}
+use Rattle.stock_frame.specs.Format.{Format, valuesOf, bodyChecks}
 use Rattle.stock_frame.specs.Formats.{isOneOf, firstOf}
 use Rattle.stock_frame.specs.Codec.{Codec}
 use Rattle.answers.specs.declared.Answer.{Answer}
@@ -33,27 +33,27 @@ unfoldable pub formatOf : ℕ → Format
 formatOf n = firstOf formats five n
 
 -- business 01 and one of the formats, then its version
-abbrev pub kindRows : ℕ → ℕ → ℕ → List Row
-kindRows business format version =
+abbrev pub kindChecks : ℕ → ℕ → ℕ → List Check
+kindChecks business format version =
     must 7 (eqb business 1 && isFormat format)
     ∷ must 8 (eqb version (formatOf format .version))
     ∷ []
 
--- the paper's table: rows 2 to 6, rows 7 and 8, and rows 9 to 13 of the format
-unfoldable pub rows : List ℕ → List Row
-rows t =
+-- the rules' table: checks 2 to 6, checks 7 and 8, and checks 9 to 13 of the format
+unfoldable pub checks : List ℕ → List Check
+checks t =
     let f = own t in
-    outlineRows t ++ (kindRows (business f) (format f) (version f) ++ bodyRows (formatOf (format f)) (body f))
+    outlineChecks t ++ (kindChecks (business f) (format f) (version f) ++ bodyChecks (formatOf (format f)) (body f))
 
--- the answer: the first row that fails, or acceptance
+-- the answer: the first check that fails, or acceptance
 unfoldable pub answerOf : List ℕ → Answer
-answerOf t = named (firstFail (rows t)) (record { format = format (own t); seq = number (own t); length = lengthOf t })
+answerOf t = named (firstFail (checks t)) (record { format = format (own t); seq = number (own t); length = lengthOf t })
 
 -- the message of an accepted frame of a codec's format; of anything else, none
 unfoldable pub messageBy : {M : Type 0} → Codec M → M → List ℕ → M
 messageBy C none t =
     let f = own t in
-    cond (eqb (firstFail (rows t)) 0 && eqb (format f) (C .form .number)) (C .message (number f) (valuesOf (C .form) (body f))) none
+    cond (eqb (firstFail (checks t)) 0 && eqb (format f) (C .form .number)) (C .message (number f) (valuesOf (C .form) (body f))) none
 
 -- a reading of any frame, with the message if it is of the format that is asked for
 abbrev pub noticeAt : List ℕ → NoticeReading

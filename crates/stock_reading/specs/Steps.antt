@@ -1,30 +1,30 @@
--- What the steps of a reading hand on to each other: the rows behind the outline, by the header's six digits.
+-- What the steps of a reading hand on to each other: the checks behind the outline, by the header's six digits.
 use Prim.Native.Nat.{ℕ, _+_, _-_, _*_, _/_, _%_, _≤_}
 use mathlib.Core.Path.{_≡_}
 use mathlib.Core.Bool.{Bool, false}
 use mathlib.Core.List.{List, _++_}
 use lib.ListN.{length, take, drop}
 use lib.Dec.{eqb}
-use Rattle.layout.specs.Rows.{firstFail}
+use Rattle.layout.specs.Checks.{firstFail}
 use Rattle.answers.specs.Answers.{named}
-use Rattle.stock_frame.specs.Format.{Format, bodyRows, around}
+use Rattle.stock_frame.specs.Format.{Format, bodyChecks, around}
 use Rattle.answers.specs.declared.Answer.{Answer}
 use Rattle.stock_frame.specs.Outline.{own, body, outlineOf}
 use Rattle.stock_frame.specs.declared.head.Outline.{Outline}
 use Rattle.stock_reading.specs.declared.reading.Whole.{Whole}
 use Rattle.stock_reading.specs.declared.reading.Found.{Found}
 use Rattle.stock_reading.specs.declared.reading.Found.the-variants.{At, None}
-use Rattle.stock_reading.specs.Reading.{formatOf, kindRows, answerOf}
+use Rattle.stock_reading.specs.Reading.{formatOf, kindChecks, answerOf}
 
 -- business, format and version as six digits
 abbrev pub kindOf : Format → ℕ
 kindOf F = (1 * 100 + F .number) * 100 + F .version
 
--- what the rows behind the outline answer
+-- what the checks behind the outline answer
 unfoldable pub afterOutline : ℕ → ℕ → List ℕ → Answer
 afterOutline kind seq b =
     let format = kind / 100 % 100 in
-    named (firstFail (kindRows (kind / 10000) format (kind % 100) ++ bodyRows (formatOf format) b))
+    named (firstFail (kindChecks (kind / 10000) format (kind % 100) ++ bodyChecks (formatOf format) b))
     (record { format = format; seq = seq; length = around + length b })
 
 -- a frame's outline is whole at a place: its header, and where its body stands on the line

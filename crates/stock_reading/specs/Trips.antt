@@ -5,26 +5,26 @@ use mathlib.Core.Bool.{true}
 use mathlib.Core.List.{List, [], _∷_, _++_}
 use mathlib.Core.Logic.{_↔_}
 use lib.ListN.{length, drop}
-use Rattle.layout.specs.Rows.{firstFail}
+use Rattle.layout.specs.Checks.{firstFail}
 use Rattle.answers.specs.Answers.{answerNumber, answerValues}
 use Rattle.answers.specs.declared.Frame.{Frame}
 use Rattle.answers.specs.declared.Answer.the-variants.{Accepted}
 use Rattle.stock_frame.specs.Outline.{lengthOf, own, format, number}
 use Rattle.stock_frame.specs.Writing.{writtenOver}
 use Rattle.stock_frame.specs.Codec.{Codec, legal, frameOf}
-use Rattle.stock_frame.specs.Checks.{allHold}
+use Rattle.layout.specs.Checks.{allHold}
 use Rattle.stock_frame.specs.Reads.{Reads}
 use Rattle.stock_frame.specs.Figures.{beside}
-use Rattle.stock_reading.specs.Reading.{isFormat, rows, answerOf, messageBy}
+use Rattle.stock_reading.specs.Reading.{isFormat, checks, answerOf, messageBy}
 
 -- the answer to any bytes
 pub record AnswerSays (t : List ℕ) : Type 0 where
   -- 0 exactly where every check of the rules' table holds
-  pub exactly : (answerNumber (answerOf t) ≡ 0) ↔ allHold (rows t)
+  pub exactly : (answerNumber (answerOf t) ≡ 0) ↔ allHold (checks t)
   -- an accepted frame's format is one of the list
   pub format-is : answerNumber (answerOf t) ≡ 0 → isFormat (format (own t)) ≡ true
   -- else the number of the first check that fails, at most 13
-  pub first : answerNumber (answerOf t) ≡ firstFail (rows t)
+  pub first : answerNumber (answerOf t) ≡ firstFail (checks t)
   pub at-most : answerNumber (answerOf t) ≤ 13
   -- beside 0 the format, the number and the length, beside 1 to 5 nothing, beside the others the length
   pub values : answerValues (answerOf t) ≡ beside (answerNumber (answerOf t)) (format (own t) ∷ number (own t) ∷ lengthOf t ∷ []) (lengthOf t)

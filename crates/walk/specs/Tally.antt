@@ -10,7 +10,7 @@ use Rattle.walk.specs.Walk.{Reading, Move, isWhole, walk, restOf}
 use Rattle.walk.specs.declared.tally.Tally.{Tally}
 use Rattle.walk.specs.declared.tally.Tallied.{Tallied}
 
--- what becomes of the bytes of a move, by the paper's number
+-- what becomes of the bytes of a move, by the answer number
 abbrev pub isAccepted : ℕ → Bool
 isAccepted n = eqb n 0
 

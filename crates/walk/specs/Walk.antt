@@ -5,7 +5,7 @@ use mathlib.Core.List.{List, [], _∷_}
 use lib.ListN.{length, drop}
 use lib.Dec.{eqb, leb}
 
--- a reading: what it says of the bytes from a place, the paper's number of that, and the length of the frame it speaks of
+-- a reading: what it says of the bytes from a place, the answer number of that, and the length of the frame it speaks of
 pub record Reading (A : Type 0) : Type 0 where
   pub says : List ℕ → A
   pub number : A → ℕ

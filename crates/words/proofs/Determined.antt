@@ -4,9 +4,9 @@ use contract.Lifetimes
 use borrow.Fn.World
 use borrow.Fn.Kinds as kinds
 use denote.Triple.Clauses
-use Rattle.words.proofs.check.xor_of as xor
-use Rattle.words.proofs.check.xor_of.Kinds as xor-kinds
-use Rattle.words.proofs.check.xor_of.Reads as xor-reads
+use Rattle.words.proofs.xor.xor_of as xor
+use Rattle.words.proofs.xor.xor_of.Kinds as xor-kinds
+use Rattle.words.proofs.xor.xor_of.Reads as xor-reads
 use Rattle.words.proofs.blocks.eight_at as eight
 use Rattle.words.proofs.blocks.eight_at.Kinds as eight-kinds
 use Rattle.words.proofs.blocks.eight_at.Reads as eight-reads

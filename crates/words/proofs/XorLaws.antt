@@ -9,7 +9,7 @@ use native.Mathlib.Nat.{zero-add, suc-add, le-refl, pow-succ', div-one, div-eq-o
 use lib.ListN.{length, take, drop, take-append-drop, drop-of-length-le}
 use lib.Seq.{drop-drop}
 use Rattle.words.specs.Words.{bytes}
-use Rattle.words.specs.Check.{xorOf}
+use Rattle.words.specs.Xor.{xorOf}
 use Rattle.words.specs.Steps.{gathered}
 
 -- three digits of two

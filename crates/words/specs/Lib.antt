@@ -1,5 +1,5 @@
 -- Bytes as one number, what their digits hold, and their exclusive-or: definitions that the contracts cite.
 pub mod Words
-pub mod Check
+pub mod Xor
 pub mod Blocks
 pub mod Steps

@@ -4,7 +4,7 @@ use mathlib.Core.List.{List}
 use lib.Bits.{bitXor}
 use lib.ListN.{drop}
 use Rattle.words.specs.Words.{bytes}
-use Rattle.words.specs.Check.{xorOf}
+use Rattle.words.specs.Xor.{xorOf}
 
 -- the eight bytes of a number, and the bytes of a list from a place on
 unfoldable pub gathered : ℕ → ℕ → List ℕ → ℕ

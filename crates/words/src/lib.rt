@@ -1,4 +1,4 @@
 // Several bytes taken at once as one number: their packed digits, and the exclusive-or of bytes. Nothing here knows of frames.
 pub mod blocks;
-pub mod check;
 mod loads;
+pub mod xor;

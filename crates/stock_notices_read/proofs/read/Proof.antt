@@ -1,8 +1,8 @@
--- `read` meets its contract: at each return, the row that the tests before it tell.
+-- `read` meets its contract: at each return, the check that the tests before it tell.
 use mathlib.Core.Path.{_∙_, sym}
 use native.Mathlib.Omega.{arith}
 use borrow.Author.Tests.{not-true, not-false}
-use Rattle.stock_notices_read.proofs.ReadSteps.{row-short, row-long, row-high, row-low, row-unknown, row-none, read-refused, read-accepted}
+use Rattle.stock_notices_read.proofs.ReadSteps.{check-short, check-long, check-high, check-low, check-unknown, check-none, read-refused, read-accepted}
 use borrow.Author.Needs.{needs}
 use Rattle.stock_notices_read.proofs.read.Statement.{statement}
 use Rattle.stock_notices_read.proofs.read.Tie as tie
@@ -13,7 +13,7 @@ refused-requires c κs = search needs
 returns : tie.Need-returns
 returns c =
     let a = c .before .before .before .args in
-    read-refused 9 (a .seq) (a .body .now) (c .refused .result) (omega arith) (row-short (a .body .now) (omega arith)) (c .refused .ensures)
+    read-refused 9 (a .seq) (a .body .now) (c .refused .result) (omega arith) (check-short (a .body .now) (omega arith)) (c .refused .ensures)
 
 refused-requires-2 : tie.Need-refused-requires-2
 refused-requires-2 c κs = search needs
@@ -21,7 +21,7 @@ refused-requires-2 c κs = search needs
 returns-2 : tie.Need-returns-2
 returns-2 c =
     let a = c .before .before .before .before .args in
-    read-refused 9 (a .seq) (a .body .now) (c .refused2 .result) (omega arith) (row-long (a .body .now) (omega arith)) (c .refused2 .ensures)
+    read-refused 9 (a .seq) (a .body .now) (c .refused2 .result) (omega arith) (check-long (a .body .now) (omega arith)) (c .refused2 .ensures)
 
 shared-slice-read-high : tie.Need-shared-slice-read-high
 shared-slice-read-high c = search needs
@@ -36,7 +36,7 @@ returns-3 : tie.Need-returns-3
 returns-3 c =
     let a = c .before .before .before .before .before .before .before .args in
     read-refused 11 (a .seq) (a .body .now) (c .refused3 .result) (omega arith)
-    (row-high (a .body .now) (omega arith) (omega arith) (omega arith)) (c .refused3 .ensures)
+    (check-high (a .body .now) (omega arith) (omega arith) (omega arith)) (c .refused3 .ensures)
 
 refused-requires-4 : tie.Need-refused-requires-4
 refused-requires-4 c κs = search needs
@@ -45,7 +45,7 @@ returns-4 : tie.Need-returns-4
 returns-4 c =
     let a = c .before .before .before .before .before .before .before .before .args in
     read-refused 11 (a .seq) (a .body .now) (c .refused4 .result) (omega arith)
-    (row-low (a .body .now) (omega arith) (omega arith) (omega arith) (omega arith)) (c .refused4 .ensures)
+    (check-low (a .body .now) (omega arith) (omega arith) (omega arith) (omega arith)) (c .refused4 .ensures)
 
 mul-category : tie.Need-mul-category
 mul-category c = search needs
@@ -63,7 +63,7 @@ returns-5 : tie.Need-returns-5
 returns-5 c =
     let a = c .before .before .before .before .before .before .before .before .before .before .args in
     read-refused 13 (a .seq) (a .body .now) (c .refused5 .result) (omega arith)
-    (row-unknown (a .body .now) (omega arith) (omega arith) (omega arith) (omega arith)
+    (check-unknown (a .body .now) (omega arith) (omega arith) (omega arith) (omega arith)
     (sym (c .before .before .known .ensures) ∙ not-true (c .before .before .known .result) (c .before .if5 .taken)))
     (c .refused5 .ensures)
 
@@ -93,7 +93,7 @@ returns-6 c =
     let a = c .before .before .before .before .before .before .before .before .before .before .before .before .before .before .args in
     let k = c .before .before .before .before .before .before in
     read-accepted (a .seq) (a .body .now) (c .before .before .before .before .zeros .result) (c .before .put-bytes .last .1 .0) (omega arith) (omega arith)
-    (row-none (a .body .now) (omega arith) (omega arith) (omega arith) (omega arith)
+    (check-none (a .body .now) (omega arith) (omega arith) (omega arith) (omega arith)
     (sym (k .known .ensures) ∙ not-false (k .known .result) (c .before .before .before .before .before .if5 .left)))
     (c .before .before .before .before .zeros .ensures) (c .before .put-bytes .ensures)
 

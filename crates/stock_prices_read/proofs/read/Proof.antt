@@ -10,10 +10,10 @@ use borrow.Author.Needs.{needs}
 use borrow.Author.Tests.{not-true, not-false, leb-true}
 use Rattle.digits.specs.Packed.{goodByte}
 use Rattle.digits.proofs.Bools.{and-left, and-right}
-use Rattle.layout.specs.Rows.{firstFail}
-use Rattle.stock_frame.specs.Format.{bodyRows}
+use Rattle.layout.specs.Checks.{firstFail}
+use Rattle.stock_frame.specs.Format.{bodyChecks}
 use Rattle.stock_prices.specs.Prices.{twelve}
-use Rattle.stock_prices_read.proofs.ReadLaws.{refused-as, wrong-length, bad-count, row-told, row-high, row-good, accepted}
+use Rattle.stock_prices_read.proofs.ReadLaws.{refused-as, wrong-length, bad-count, check-told, check-high, check-good, accepted}
 use Rattle.stock_prices_read.proofs.read.Statement.{statement}
 use Rattle.stock_prices_read.proofs.read.Tie as tie
 
@@ -38,14 +38,14 @@ low : (k : tie.Else2) → getD (bytes (k .before)) 0 0 % 16 ≤ 9
 low k = leb-true (getD (bytes (k .before)) 0 0 % 16) 9 (and-right (leb (getD (bytes (k .before)) 0 0 / 16) 9) _ (good k))
 
 -- ---- where the slots are judged
-abbrev count : tie.After-row-of → tie.After-good-byte
+abbrev count : tie.After-check-of → tie.After-good-byte
 count k = k .before .before .before
 
-fails : (k : tie.After-row-of) → firstFail (bodyRows twelve (bytes (count k))) ≡ k .row-of .result
+fails : (k : tie.After-check-of) → firstFail (bodyChecks twelve (bytes (count k))) ≡ k .check-of .result
 fails k =
     let f = k .before .slots-in in
-    row-told (bytes (count k)) (long (count k)) (good (k .before .before)) (f .result .good) (f .result .timed) (f .result .ruled) (f .ensures .0) (λ g. (f .ensures .1 g .1, f .ensures .1 g .2))
-    ∙ sym (k .row-of .ensures)
+    check-told (bytes (count k)) (long (count k)) (good (k .before .before)) (f .result .good) (f .result .timed) (f .result .ruled) (f .ensures .0) (λ g. (f .ensures .1 g .1, f .ensures .1 g .2))
+    ∙ sym (k .check-of .ensures)
 
 add-refused : tie.Need-add-refused
 add-refused c = search needs
@@ -85,8 +85,8 @@ cast-n c = search (needs, high c, low c)
 slots-in-requires : tie.Need-slots-in-requires
 slots-in-requires c κs = search needs
 
-row-of-requires : tie.Need-row-of-requires
-row-of-requires c κs = search needs
+check-of-requires : tie.Need-check-of-requires
+check-of-requires c κs = search needs
 
 refused-requires-3 : tie.Need-refused-requires-3
 refused-requires-3 c κs = search needs
@@ -97,8 +97,8 @@ returns-3 c =
     let f = k .before .slots-in .result in
     let b = count k in
     let n = getD (bytes b) 0 0 / 16 * 10 + getD (bytes b) 0 0 % 16 in
-    let h : 10 < k .row-of .result = rw (k .row-of .ensures) (row-high (f .good) (f .timed) n (f .ruled) (rw (← k .row-of .ensures) (c .before .if3 .taken))) in
-    refused-as (start b .args .seq) (bytes b) (k .row-of .result) 374 (omega (arith, h)) (omega (arith, long b)) (fails k) (c .refused3 .result) (c .refused3 .ensures)
+    let h : 10 < k .check-of .result = rw (k .check-of .ensures) (check-high (f .good) (f .timed) n (f .ruled) (rw (← k .check-of .ensures) (c .before .if3 .taken))) in
+    refused-as (start b .args .seq) (bytes b) (k .check-of .result) 374 (omega (arith, h)) (omega (arith, long b)) (fails k) (c .refused3 .result) (c .refused3 .ensures)
 
 accepted-requires : tie.Need-accepted-requires
 accepted-requires c κs = search needs
@@ -109,10 +109,10 @@ returns-4 c =
     let f = k .before .slots-in in
     let b = count k in
     let n = getD (bytes b) 0 0 / 16 * 10 + getD (bytes b) 0 0 % 16 in
-    let z : k .row-of .result ≡ 0 = omega (arith, c .before .before .if3 .left) in
+    let z : k .check-of .result ≡ 0 = omega (arith, c .before .before .if3 .left) in
     c .accepted .ensures
     ∙ accepted (bytes b) (long b) (start b .args .seq) (f .result .slots)
-    (f .ensures .1 (row-good (f .result .good) (f .result .timed) n (f .result .ruled) (sym (k .row-of .ensures) ∙ z)) .0) (fails k ∙ z)
+    (f .ensures .1 (check-good (f .result .good) (f .result .timed) n (f .result .ruled) (sym (k .check-of .ensures) ∙ z)) .0) (fails k ∙ z)
 
 pub read-spec : {M : Type 1} → statement M
 read-spec =
@@ -129,7 +129,7 @@ read-spec =
     add-count
     cast-n
     slots-in-requires
-    row-of-requires
+    check-of-requires
     refused-requires-3
     returns-3
     accepted-requires

@@ -7,7 +7,7 @@ use borrow.Author.Tests.{not-true, not-false, le-leb, lt-leb}
 use Rattle.stock_prices.proofs.AndLaws.{none, later}
 use Rattle.digits.proofs.Bools.{and-both}
 use Rattle.stock_prices_read.specs.Steps.{rowOf}
-use Rattle.stock_prices_read.proofs.ReadLaws.{row-fields}
+use Rattle.stock_prices_read.proofs.ReadLaws.{check-fields}
 use Rattle.stock_prices_read.proofs.row_of.Statement.{statement}
 use Rattle.stock_prices_read.proofs.row_of.Tie as tie
 
@@ -27,7 +27,7 @@ start k = k .before .before
 
 fields : (k : tie.Else2) {t : Bool} → ((leb 1 (start k .args .n) && leb (start k .args .n) 10) && start k .args .ruled) ≡ t
     → cond t 0 13 ≡ rowOf (start k .args .good) (start k .args .timed) (start k .args .n) (start k .args .ruled)
-fields k e = row-fields (start k .args .n) (start k .args .ruled) (not-false (start k .args .good) (k .before .if1 .left)) (not-false (start k .args .timed) (k .if2 .left)) e
+fields k e = check-fields (start k .args .n) (start k .args .ruled) (not-false (start k .args .good) (k .before .if1 .left)) (not-false (start k .args .timed) (k .if2 .left)) e
 
 returns-3 : tie.Need-returns-3
 returns-3 c =
@@ -49,5 +49,5 @@ returns-6 c =
     let a = start (c .before .before .before) .args in
     fields (c .before .before .before) (later (and-both (le-leb 1 (a .n) (omega arith)) (le-leb (a .n) 10 (omega arith))) (c .if5 .left))
 
-pub row-of-spec : {M : Type 1} → statement M
-row-of-spec = tie.close (tie.spec returns returns-2 returns-3 returns-4 returns-5 returns-6)
+pub check-of-spec : {M : Type 1} → statement M
+check-of-spec = tie.close (tie.spec returns returns-2 returns-3 returns-4 returns-5 returns-6)

@@ -1,4 +1,4 @@
--- `outline::outline` meets its contract: each row that fails answers; the others are those of the frame's own bytes.
+-- `outline::outline` meets its contract: each check that fails answers; the others are those of the frame's own bytes.
 use borrow.Author.Needs.{needs}
 use native.Mathlib.Omega.{arith}
 use mathlib.Core.Path.{_∙_}

@@ -1,4 +1,4 @@
--- `outline::own_outline` meets its contract: each row that fails answers.
+-- `outline::own_outline` meets its contract: each check that fails answers.
 use borrow.Author.Needs.{needs}
 use Rattle.stock_frame.proofs.OutlineSteps.{own-return, own-feed, own-check, own-whole, own-head}
 use Rattle.stock_frame.proofs.outline.own_outline.Statement.{statement}

@@ -7,8 +7,8 @@ use lib.ListN.{length}
 use denote.Ref.{now}
 use Rattle.words.specs.Steps.{gathered}
 use Rattle.words.proofs.XorLaws.{gathered-more}
-use Rattle.words.proofs.check.last_two.Statement.{statement}
-use Rattle.words.proofs.check.last_two.Tie as tie
+use Rattle.words.proofs.xor.last_two.Statement.{statement}
+use Rattle.words.proofs.xor.last_two.Tie as tie
 
 sub-two : tie.Need-sub-two
 sub-two c = search needs

@@ -7,8 +7,8 @@ use lib.ListN.{length}
 use denote.Ref.{now}
 use Rattle.words.specs.Steps.{gathered}
 use Rattle.words.proofs.XorLaws.{gathered-more}
-use Rattle.words.proofs.check.last_four.Statement.{statement}
-use Rattle.words.proofs.check.last_four.Tie as tie
+use Rattle.words.proofs.xor.last_four.Statement.{statement}
+use Rattle.words.proofs.xor.last_four.Tie as tie
 
 sub-four : tie.Need-sub-four
 sub-four c = search needs

@@ -3,7 +3,7 @@ ghost use mathlib.Core.Path.{_≡_};
 ghost use Prim.Native.Nat.{_-_, _%_};
 ghost use lib.ListN.{length};
 ghost use Rattle.words.specs.Words.{bytes};
-ghost use Rattle.words.specs.Check.{xorOf};
+ghost use Rattle.words.specs.Xor.{xorOf};
 ghost use Rattle.words.specs.Steps.{gathered};
 use crate::loads::eight;
 use crate::loads::four;

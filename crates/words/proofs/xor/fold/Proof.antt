@@ -4,8 +4,8 @@ use Prim.Native.Nat.{_/_, _^_}
 use mathlib.Core.Path.{sym, _∙_}
 use lib.Bits.{bitXor}
 use Rattle.words.proofs.XorLaws.{xor-halve, xor-low}
-use Rattle.words.proofs.check.fold.Statement.{statement}
-use Rattle.words.proofs.check.fold.Tie as tie
+use Rattle.words.proofs.xor.fold.Statement.{statement}
+use Rattle.words.proofs.xor.fold.Tie as tie
 
 cast-result : tie.Need-cast-result
 cast-result c = search needs

@@ -5,11 +5,11 @@ use mathlib.Core.Path.{_≡_, ap, _∙_}
 use native.Mathlib.Omega.{arith}
 use lib.ListN.{length}
 use denote.Ref.{now}
-use Rattle.words.specs.Check.{xorOf}
+use Rattle.words.specs.Xor.{xorOf}
 use Rattle.words.specs.Steps.{gathered}
 use Rattle.words.proofs.XorLaws.{gathered-more, gathered-none, gathered-all}
-use Rattle.words.proofs.check.xor_of.Statement.{statement}
-use Rattle.words.proofs.check.xor_of.Tie as tie
+use Rattle.words.proofs.xor.xor_of.Statement.{statement}
+use Rattle.words.proofs.xor.xor_of.Tie as tie
 
 abbrev Inv-loop : tie.InvT-loop
 Inv-loop s n x₀ i₀ x i = (i ≤ length s) × (i % 8 ≡ 0) × (gathered x i s ≡ xorOf s)

@@ -8,8 +8,8 @@ use denote.Ref.{now}
 use Rattle.words.proofs.LoadLaws.{load-one}
 use Rattle.words.specs.Steps.{gathered}
 use Rattle.words.proofs.XorLaws.{gathered-more}
-use Rattle.words.proofs.check.last_one.Statement.{statement}
-use Rattle.words.proofs.check.last_one.Tie as tie
+use Rattle.words.proofs.xor.last_one.Statement.{statement}
+use Rattle.words.proofs.xor.last_one.Tie as tie
 
 sub-wide : tie.Need-sub-wide
 sub-wide c = search needs
