@@ -29,7 +29,11 @@ use Rattle.stock_halts.specs.declared.Halt.{Halt}
 use Rattle.stock_prices.specs.Prices.{slotCount, codesLong, ShapedPrices}
 use Rattle.stock_prices.specs.declared.Slot.{Slot}
 use Rattle.stock_prices.specs.declared.Prices.{Prices}
+use Rattle.answers.specs.Answers.{answerLength}
+use Rattle.stock_reading.specs.Reading.{answerOf, noticeAt}
+use Rattle.c_outcomes.specs.Lent.{isOf}
 use Rattle.c_notices.specs.Notices.{noticeFrom}
+use Rattle.c_notices.proofs.NoticeBytes.{text-told}
 use Rattle.c_quotes.specs.Quotes.{quoteBytes, quoteAmounts, quoteFrom}
 use Rattle.c_prices.specs.Slots.{slotCodes, slotAmounts, slotTimes, slotIn, slotsIn, pricesFrom}
 use Rattle.c_halts.specs.Halts.{eventNumbers, haltNumbers, tellsHalt, eventFrom, haltFrom}
@@ -119,6 +123,10 @@ tidy-resume code (Halted t r) h = and-right (cond (eqb t (nines 0)) false true) 
 -- a tidy notice's text and figures are those of the notice alone
 pub notice-back : (m : Notice) → ShapedNotice m → m .length ≤ room → tidyNotice m ≡ true → noticeFrom (m .seq) (m .category) (take (m .length) (m .text)) ≡ m
 notice-back m s h tidy = from-parts m (s .text-long) h tidy
+
+-- the text's length, which no number hands on, is the frame's without 14
+pub notice-length : (t : List ℕ) → isOf 5 (answerOf t) ≡ true → noticeAt t .notice .length ≡ answerLength (answerOf t) - 14
+notice-length t is = omega (arith, text-told t 0 (noticeAt t) refl is)
 
 -- ---- prices
 -- the slots that lists tell from a place on are those whose codes, amounts and times stand there

@@ -11,6 +11,7 @@ use Rattle.digits.proofs.Bools.{no-false}
 use Rattle.stock_frame.specs.Outline.{lengthOf, own, body}
 use Rattle.stock_frame.specs.Format.{valuesOf}
 use Rattle.layout.specs.Bytes.{bytesOver}
+use Rattle.answers.specs.Answers.{answerLength}
 use Rattle.answers.specs.declared.Answer.{Answer}
 use Rattle.answers.specs.declared.Answer.the-variants.{Accepted, NoFrame, Refused}
 use Rattle.stock_frame.proofs.OutlineLaws.{within-line, length-body}
@@ -64,6 +65,13 @@ module _ (line : List ℕ) (at : ℕ) (r : NoticeReading) (e : r ≡ noticeAt (d
   text-within =
       let high : lengthOf t ≤ length line - at = rw length-drop at (within-line t (reads .outlined)) in
       omega (arith, high, length-body t (reads .outlined), text-long .0)
+
+  -- a caller in C has the frame's length, which is the text's and 14
+  pub text-told : answerLength (r .answer) ≡ n + 14
+  text-told =
+      let whole : answerLength (r .answer) ≡ lengthOf t =
+      ap (λ (x : NoticeReading). answerLength (x .answer)) e ∙ ap answerLength (trips-five .accepts t (noticeAt t .notice) reads .0) in
+      omega (arith, whole, length-body t (reads .outlined), text-long .0)
 
   -- the text, as the part `&line[at + 11..at + 11 + n]`
   abbrev text : List ℕ

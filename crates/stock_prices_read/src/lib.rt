@@ -55,7 +55,7 @@ fn good_byte(b: u8) -> bool
 }
 
 // The check that fails first, or 0: the slots' digits, their times, the count and the slots' fields.
-fn row_of(good: bool, timed: bool, n: usize, ruled: bool) -> u8
+fn check_of(good: bool, timed: bool, n: usize, ruled: bool) -> u8
     ensures { λ r. ⌜ r ≡ rowOf good timed n ruled ⌝ }
 {
     if !good {
@@ -87,7 +87,7 @@ pub fn read(body: &[u8], seq: u32) -> PricesReading
     let count = b / 16 * 10 + b % 16;
     let n = count as usize;
     let f = slots::slots_in(body, n);
-    let check = row_of(f.good, f.timed, n, f.ruled);
+    let check = check_of(f.good, f.timed, n, f.ruled);
     if check > 0 {
         return refused(check, FRAME);
     }

@@ -1,4 +1,4 @@
--- `row_of` meets its contract.
+-- `check_of` meets its contract.
 use mathlib.Core.Path.{_≡_, sym, ap, ap₂}
 use mathlib.Core.Bool.{Bool, cond, _&&_}
 use native.Mathlib.Omega.{arith}
@@ -8,8 +8,8 @@ use Rattle.stock_prices.proofs.AndLaws.{none, later}
 use Rattle.digits.proofs.Bools.{and-both}
 use Rattle.stock_prices_read.specs.Steps.{rowOf}
 use Rattle.stock_prices_read.proofs.ReadLaws.{check-fields}
-use Rattle.stock_prices_read.proofs.row_of.Statement.{statement}
-use Rattle.stock_prices_read.proofs.row_of.Tie as tie
+use Rattle.stock_prices_read.proofs.check_of.Statement.{statement}
+use Rattle.stock_prices_read.proofs.check_of.Tie as tie
 
 returns : tie.Need-returns
 returns c =
