@@ -4,11 +4,8 @@ ghost use mathlib.Core.List.{_∷_, [], _++_};
 ghost use Prim.Native.Nat.{_+_, _-_, _≤_};
 ghost use lib.ListN.{take, drop};
 ghost use Rattle.ledger_arrivals.specs.Steps.{RoomAt};
-
-// How many ends 8 runs have at the most, and 32.
-const FEW: usize = 17;
-
-const SOME: usize = 65;
+use ledger_ends::FEW;
+use ledger_ends::SOME;
 
 // A place at or behind this one from which on moving ends by two places changes none: they are all 0, or there are no more.
 fn reach(ends: &[u32], at: usize) -> usize

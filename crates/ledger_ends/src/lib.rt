@@ -10,10 +10,10 @@ ghost use Rattle.ledger_ends.specs.Looking.{foundIn, seenOf};
 // Every end lies below this: no number that may arrive is as high.
 const BOUND: u32 = 100_000_000;
 
-// How many ends 8 runs have at the most, and 32.
-const FEW: usize = 17;
+// How many ends 8 runs have at the most, and 32: behind them a record of so few runs holds zeros.
+pub const FEW: usize = 17;
 
-const SOME: usize = 65;
+pub const SOME: usize = 65;
 
 // What a look over all ends finds.
 pub struct Seen {
