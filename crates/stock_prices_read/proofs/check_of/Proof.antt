@@ -37,7 +37,7 @@ returns-3 c =
 returns-4 : tie.Need-returns-4
 returns-4 c =
     let a = start (c .before .before) .args in
-    fields (c .before .before) (none (a .ruled) (later (le-leb 1 (a .n) (omega arith)) (lt-leb (a .n) 10 (c .if4 .taken))))
+    fields (c .before .before) (none (a .ruled) (later (le-leb 1 (a .n) (omega arith)) (lt-leb (a .n) 10 (omega (arith, c .if4 .taken)))))
 
 returns-5 : tie.Need-returns-5
 returns-5 c =

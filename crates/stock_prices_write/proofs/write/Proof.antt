@@ -35,7 +35,7 @@ returns c =
 returns-2 : tie.Need-returns-2
 returns-2 c =
     let k = c .before in
-    prices-short (start k .args .m) (shape k) (right k) (start k .args .buf .now) (c .if2 .taken)
+    prices-short (start k .args .m) (shape k) (right k) (start k .args .buf .now) (omega (arith, c .if2 .taken))
 
 cast-write : tie.Need-cast-write
 cast-write c = search needs

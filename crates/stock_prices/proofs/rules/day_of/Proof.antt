@@ -11,7 +11,7 @@ use Rattle.stock_prices.proofs.rules.day_of.Tie as tie
 returns : tie.Need-returns
 returns c =
     let a = c .before .args in
-    day-is (a .hhmm) (a .rest) false (λ l. day-hours (a .hhmm) (a .rest) l (c .if1 .taken)) (λ u. refl)
+    day-is (a .hhmm) (a .rest) false (λ l. day-hours (a .hhmm) (a .rest) l (omega (arith, c .if1 .taken))) (λ u. refl)
 
 returns-2 : tie.Need-returns-2
 returns-2 c =
