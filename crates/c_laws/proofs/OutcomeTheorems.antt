@@ -11,7 +11,7 @@ use Rattle.digits.specs.Packed.{goodField}
 use Rattle.digits.proofs.Bools.{and-right}
 use Rattle.layout.specs.Checks.{Check, must, firstFail}
 use Rattle.answers.specs.Answers.{named, answerNumber, answerLength}
-use Rattle.stock_frame.specs.Outline.{lengthBytes, lengthOf, own, format, number, lengthRight}
+use Rattle.stock_frame.specs.Outline.{lengthBytes, lengthOf, own, format, sequence, lengthRight}
 use Rattle.answers.specs.declared.Frame.{Frame}
 use Rattle.answers.specs.declared.Answer.{Answer}
 use Rattle.answers.specs.declared.Answer.the-variants.{Accepted, NoFrame, Refused}
@@ -129,7 +129,7 @@ module _ (t : List ℕ) where
       leb-true (lengthOf t) 1024 (and-right (leb 14 (lengthOf t)) _ (and-right (goodField 4 (lengthBytes t)) _ right))
 
   abbrev frame : Frame
-  frame = record { format = format (own t); seq = number (own t); length = lengthOf t }
+  frame = record { format = format (own t); seq = sequence (own t); length = lengthOf t }
 
   -- the length beside the answer to any bytes is at most 1,024
   pub answer-short : answerLength (answerOf t) ≤ 1024

@@ -11,7 +11,7 @@ use borrow.Author.Tests.{ltb-true, ltb-false, lt-ltb, le-ltb}
 use Rattle.ledger.specs.Sets.{with, runsTo, Highest}
 use Rattle.ledger.specs.Ends.{places, falling, endsFrom, heardAt, highestIn, heardIn, missingIn, runsIn, firstOf, lastOf, turned, withNumber, fitted}
 use Rattle.ledger.specs.Calls.{mostNumber, mostRuns, arrivalNumber, fresh, valid, arrivedOf}
-use Rattle.ledger.specs.History.{after, answerTo, recorded, Told, answerBy}
+use Rattle.ledger.specs.History.{after, answerTo, recorded, Tells, answerBy}
 use Rattle.ledger.specs.declared.Ledger.{Ledger}
 use Rattle.ledger.specs.declared.Arrived.{Arrived}
 use Rattle.ledger.proofs.EndLaws.{from-length, even-missing}
@@ -67,7 +67,7 @@ series-heard (n ∷ ns) y lo =
     ∙ ap (λ (b : Bool). (eqb y n && eqb (arrivalNumber (answerTo ns n)) 0) || b) (series-heard ns y lo)
 
 -- what the calls tell
-pub series-told : (ns : List ℕ) → Told (recorded ns) (after ns)
+pub series-told : (ns : List ℕ) → Tells (recorded ns) (after ns)
 series-told ns =
     let es = after ns .ends in
     let g = series-good ns in

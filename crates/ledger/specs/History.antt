@@ -33,7 +33,7 @@ abbrev pub Reached : Ledger → Type 0
 Reached l = (ns : List ℕ) × (after ns ≡ l)
 
 -- what the calls tell of a ledger is true of a set
-pub record Told (f : ℕ → Bool) (l : Ledger) : Type 0 where
+pub record Tells (f : ℕ → Bool) (l : Ledger) : Type 0 where
   pub highest : ℕ
   pub heard : ℕ
   pub missing : ℕ

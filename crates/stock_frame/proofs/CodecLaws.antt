@@ -9,7 +9,7 @@ use lib.Dec.{ltb}
 use borrow.Author.Tests.{ltb-true, lt-ltb}
 use Rattle.digits.proofs.TestLaws.{holds, all, _also_, together}
 use Rattle.layout.specs.Cells.{Cell, size, fits, encode}
-use Rattle.stock_frame.specs.Outline.{own, body, business, format, version, number, kindValues, kindCells}
+use Rattle.stock_frame.specs.Outline.{own, body, business, format, version, sequence, kindValues, kindCells}
 use Rattle.stock_frame.specs.Format.{valuesOf, ranged, around}
 use Rattle.stock_frame.specs.Writing.{frameAround, frameBytes}
 use Rattle.stock_frame.specs.Codec.{Codec, legalTests, legal, frameOf}
@@ -111,7 +111,7 @@ module _ {M : Type 0} (C : Codec M) (Shaped : M → Type 0) (law : Lawful C Shap
   -- ---- writing a read message gives the bytes
   module _ (t : List ℕ) (m : M) (rd : Reads C t m) where
     abbrev n : ℕ
-    n = number (own t)
+    n = sequence (own t)
 
     abbrev b : List ℕ
     b = body (own t)

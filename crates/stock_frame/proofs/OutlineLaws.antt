@@ -15,7 +15,7 @@ use Rattle.digits.proofs.TestLaws.{holds}
 use Rattle.layout.specs.Cells.{goodCells, decode, fits, encode}
 use Rattle.layout.specs.Checks.{firstFail}
 use Rattle.words.specs.Xor.{xorOf}
-use Rattle.stock_frame.specs.Outline.{business, format, version, number, lengthBytes, lengthOf, own, inner, body, kindCells, headCells, kindValues, checkByte, ended, lengthRight, outlineChecks}
+use Rattle.stock_frame.specs.Outline.{business, format, version, sequence, lengthBytes, lengthOf, own, inner, body, kindCells, headCells, kindValues, checkByte, ended, lengthRight, outlineChecks}
 use Rattle.stock_frame.specs.Format.{around}
 use Rattle.stock_frame.specs.Reads.{Outlined}
 use Rattle.stock_frame.specs.Writing.{sealed, frameAround}
@@ -258,8 +258,8 @@ module _ (t : List ℕ) (o : Outlined t) where
       (sym (ap (encode headCells) (sym head-values) ∙ encode-decode headCells (drop 1 f) (rw length-drop (omega (arith, length-own, least-length))) head-good))
       (ap (take (length f - 13)) (drop-drop 9 1 f))
 
-  pub own-frameAround : (b : business (own t) ≡ 1) → own t ≡ frameAround (format (own t)) (version (own t)) (number (own t)) (body (own t))
+  pub own-frameAround : (b : business (own t) ≡ 1) → own t ≡ frameAround (format (own t)) (version (own t)) (sequence (own t)) (body (own t))
   own-frameAround b =
       own-sealed ∙ ap sealed
       (inner-parts ∙ ap (λ (x : ℕ). encode headCells (x ∷ kindValues (own t)) ++ body (own t)) (sym length-body)
-      ∙ ap (λ (x : ℕ). encode headCells ((around + length (body (own t))) ∷ x ∷ format (own t) ∷ version (own t) ∷ number (own t) ∷ []) ++ body (own t)) b)
+      ∙ ap (λ (x : ℕ). encode headCells ((around + length (body (own t))) ∷ x ∷ format (own t) ∷ version (own t) ∷ sequence (own t) ∷ []) ++ body (own t)) b)

@@ -53,8 +53,8 @@ format f = getD (kindValues f) 1 0
 abbrev pub version : List ℕ → ℕ
 version f = getD (kindValues f) 2 0
 
-abbrev pub number : List ℕ → ℕ
-number f = getD (kindValues f) 3 0
+abbrev pub sequence : List ℕ → ℕ
+sequence f = getD (kindValues f) 3 0
 
 -- the check byte and the last two bytes
 abbrev pub checkByte : List ℕ → ℕ
@@ -82,7 +82,7 @@ outlineChecks t =
 
 -- the header as one call hands it on
 abbrev pub headOf : List ℕ → Head
-headOf f = record { kind = (business f * 100 + format f) * 100 + version f; seq = number f; length = length f }
+headOf f = record { kind = (business f * 100 + format f) * 100 + version f; seq = sequence f; length = length f }
 
 unfoldable pub outlineOf : List ℕ → Outline
 outlineOf t =

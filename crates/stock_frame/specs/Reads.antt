@@ -7,7 +7,7 @@ use lib.ListN.{length, getD, drop}
 use lib.Dec.{eqb, leb}
 use Rattle.words.specs.Xor.{xorOf}
 use Rattle.layout.specs.Cells.{size, goodCells}
-use Rattle.stock_frame.specs.Outline.{lengthOf, own, inner, body, business, format, version, number, kindCells, checkByte, ended, lengthRight}
+use Rattle.stock_frame.specs.Outline.{lengthOf, own, inner, body, business, format, version, sequence, kindCells, checkByte, ended, lengthRight}
 use Rattle.stock_frame.specs.Format.{Format, valuesOf, ranged}
 use Rattle.stock_frame.specs.Codec.{Codec}
 
@@ -38,4 +38,4 @@ pub record Reads {M : Type 0} (C : Codec M) (t : List ℕ) (m : M) : Type 0 wher
   pub is-format : format (own t) ≡ C .form .number
   pub is-version : version (own t) ≡ C .form .version
   pub bodied : Bodied (C .form) (body (own t))
-  pub meant : m ≡ C .message (number (own t)) (valuesOf (C .form) (body (own t)))
+  pub meant : m ≡ C .message (sequence (own t)) (valuesOf (C .form) (body (own t)))

@@ -10,7 +10,7 @@ use lib.Dec.{eqb}
 use borrow.Author.Tests.{eqb-false, eq-eqb, ne-eqb}
 use Rattle.answers.specs.declared.Answer.{Answer}
 use Rattle.answers.specs.declared.Answer.the-variants.{NoFrame}
-use Rattle.stock_frame.proofs.OutlineSteps.{row-first}
+use Rattle.stock_frame.proofs.OutlineSteps.{check-first}
 use Rattle.stock_reading.specs.Reading.{answerOf}
 use Rattle.stock_reading.proofs.ReadingLaws.{answer-not}
 use Rattle.walk.specs.Walk.{walkFrom}
@@ -117,7 +117,7 @@ module _ (c : Bool) (line : List ℕ) (at n : ℕ) (is : n ≡ noiseLength (drop
 
 -- where no 27 stands the reading answers 1
 quiet : (b : ℕ) (bs : List ℕ) → (b ≡ 27 → ⊥) → answerOf (b ∷ bs) ≡ NoFrame 1
-quiet b bs h = sym (answer-not (b ∷ bs) (NoFrame 1) (sym (row-first (b ∷ bs) (omega arith) h)))
+quiet b bs h = sym (answer-not (b ∷ bs) (NoFrame 1) (sym (check-first (b ∷ bs) (omega arith) h)))
 
 noise-within : (t : List ℕ) → noiseLength t ≤ length t
 noise-within [] = omega arith

@@ -11,7 +11,7 @@ use Rattle.words.specs.Xor.{xorOf}
 use Rattle.layout.specs.Cells.{goodCells}
 use Rattle.layout.specs.Checks.{Check, must, firstFail}
 use Rattle.answers.specs.Answers.{named, answerNumber, answerLength}
-use Rattle.stock_frame.specs.Outline.{lengthOf, own, body, inner, business, format, version, number, checkByte, ended, lengthRight, kindCells}
+use Rattle.stock_frame.specs.Outline.{lengthOf, own, body, inner, business, format, version, sequence, checkByte, ended, lengthRight, kindCells}
 use Rattle.stock_frame.specs.Format.{bodyChecks}
 use Rattle.stock_frame.proofs.OutlineLaws.{right-length}
 use Rattle.answers.specs.declared.Frame.{Frame}
@@ -67,7 +67,7 @@ module _ (t : List ℕ) where
       let whole = check-passed n 3 (lengthRight t) from-whole (right .1) (no 3 (omega arith) (omega arith)) in
       let ends = check-passed n 2 (leb (lengthOf t) (length t)) from-end (whole .1) (no 2 (omega arith) (omega arith)) in
       let size : answerLength (answerOf t) ≡ lengthOf t =
-      length-named (firstFail (checks t)) (record { format = format (own t); seq = number (own t); length = lengthOf t })
+      length-named (firstFail (checks t)) (record { format = format (own t); seq = sequence (own t); length = lengthOf t })
       (λ p q. h (omega (arith, p, answer-number t)) (omega (arith, q, answer-number t))) in
       (omega (arith, size, right-length t (whole .0) .0), omega (arith, size, leb-true (lengthOf t) (length t) (ends .0)))
 

@@ -8,7 +8,7 @@ use lib.ListN.{take}
 use lib.Seq.{take-append-le}
 use Rattle.answers.specs.Answers.{answerNumber}
 use Rattle.layout.specs.Checks.{firstFail}
-use Rattle.stock_frame.specs.Outline.{lengthOf, own, body, business, format, version, number, outlineOf}
+use Rattle.stock_frame.specs.Outline.{lengthOf, own, body, business, format, version, sequence, outlineOf}
 use Rattle.stock_frame.specs.Format.{valuesOf}
 use Rattle.stock_frame.specs.Codec.{Codec}
 use Rattle.answers.specs.declared.Answer.the-variants.{NoFrame}
@@ -41,7 +41,7 @@ module _ (t u : List ℕ) (settled : answerOf t ≡ NoFrame 2 → ⊥) where
       go : (o : Outline) → outlineOf t ≡ o → answerOf (t ++ u) ≡ answerOf t
       go (Whole h) e =
           sym (answer-outlined (t ++ u) (whole-outlined (t ++ u) h (same-outline ∙ e) .0))
-          ∙ ap (λ (f : List ℕ). afterOutline ((business f * 100 + format f) * 100 + version f) (number f) (body f)) (same-own h e)
+          ∙ ap (λ (f : List ℕ). afterOutline ((business f * 100 + format f) * 100 + version f) (sequence f) (body f)) (same-own h e)
           ∙ answer-outlined t (whole-outlined t h e .0)
       go (Not a) e = sym (answer-not (t ++ u) a (same-outline ∙ e)) ∙ answer-not t a e
 
@@ -55,5 +55,5 @@ module _ (t u : List ℕ) (settled : answerOf t ≡ NoFrame 2 → ⊥) where
       go : (o : Outline) → outlineOf t ≡ o → messageBy C none (t ++ u) ≡ messageBy C none t
       go (Whole h) e = λ i.
           cond (eqb (same-checks i) 0 && eqb (format (same-own h e i)) (C .form .number))
-          (C .message (number (same-own h e i)) (valuesOf (C .form) (body (same-own h e i)))) none
+          (C .message (sequence (same-own h e i)) (valuesOf (C .form) (body (same-own h e i)))) none
       go (Not a) e = sym (message-not (t ++ u) a (same-outline ∙ e) C none) ∙ message-not t a e C none

@@ -8,7 +8,7 @@ use lib.ListN.{length, take, drop, length-drop}
 use lib.Dec.{eqb}
 use borrow.Author.Tests.{eqb-false}
 use Rattle.layout.specs.Checks.{firstFail}
-use Rattle.stock_frame.specs.Outline.{lengthOf, own, business, format, version, number, headOf, outlineOf}
+use Rattle.stock_frame.specs.Outline.{lengthOf, own, business, format, version, sequence, headOf, outlineOf}
 use Rattle.stock_frame.specs.Format.{valuesOf, bodyChecks, bodyAnswer}
 use Rattle.stock_frame.specs.Codec.{Codec}
 use Rattle.answers.specs.declared.Answer.{Answer}
@@ -44,7 +44,7 @@ module _ (line : List ℕ) (at : ℕ) (w : Found-Whole) (s : WholeAt line at w) 
   kind-is : w .kind ≡ (business (own bytes) * 100 + format (own bytes)) * 100 + version (own bytes)
   kind-is = ap (λ (h : Head). h .kind) head-is
 
-  seq-is : w .seq ≡ number (own bytes)
+  seq-is : w .seq ≡ sequence (own bytes)
   seq-is = ap (λ (h : Head). h .seq) head-is
 
   pub whole-answer : afterOutline (w .kind) (w .seq) part ≡ answerOf bytes

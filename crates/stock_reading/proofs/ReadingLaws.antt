@@ -11,7 +11,7 @@ use Rattle.digits.proofs.TestLaws.{holds}
 use Rattle.layout.specs.Cells.{fits}
 use Rattle.layout.specs.Checks.{Check, firstFail}
 use Rattle.answers.specs.Answers.{named}
-use Rattle.stock_frame.specs.Outline.{lengthOf, own, body, business, format, version, number, outlineChecks, kindCells, kindValues, outlineOf}
+use Rattle.stock_frame.specs.Outline.{lengthOf, own, body, business, format, version, sequence, outlineChecks, kindCells, kindValues, outlineOf}
 use Rattle.stock_frame.specs.Format.{valuesOf, bodyChecks}
 use Rattle.stock_frame.specs.Codec.{Codec}
 use Rattle.answers.specs.declared.Frame.{Frame}
@@ -37,7 +37,7 @@ module _ (t : List ℕ) (o : Outlined t) where
   kinds-fit = fits-decode kindCells (drop 3 f) (rw length-drop (omega (arith, length-own t o, least-length t o))) (o .packed-head)
 
   abbrev kind-tests : List Bool
-  kind-tests = ltb (business f) 100 ∷ ltb (format f) 100 ∷ ltb (version f) 100 ∷ ltb (number f) (10 ^ 8) ∷ true ∷ []
+  kind-tests = ltb (business f) 100 ∷ ltb (format f) 100 ∷ ltb (version f) 100 ∷ ltb (sequence f) (10 ^ 8) ∷ true ∷ []
 
   pub business-lt : business f < 100
   business-lt = ltb-true (business f) 100 (holds kind-tests kinds-fit 0)
@@ -69,12 +69,12 @@ module _ (t : List ℕ) (o : Outlined t) where
       firstFail-append (outlineChecks t) after refl
       ∙ ap (λ (n : ℕ). cond (eqb n 0) (firstFail after) n) (outlined-passes t o)
 
-  pub answer-outlined : afterOutline kind (number f) (body f) ≡ answerOf t
+  pub answer-outlined : afterOutline kind (sequence f) (body f) ≡ answerOf t
   unfolding afterOutline answerOf
   answer-outlined =
       (λ i. named (firstFail (kindChecks (kind-business i) (kind-format i) (kind-version i) ++ bodyChecks (formatOf (kind-format i)) (body f)))
-      (record { format = kind-format i; seq = number f; length = length-body t o i }))
-      ∙ ap (λ (n : ℕ). named n (record { format = format f; seq = number f; length = lengthOf t })) (sym checks-outlined)
+      (record { format = kind-format i; seq = sequence f; length = length-body t o i }))
+      ∙ ap (λ (n : ℕ). named n (record { format = format f; seq = sequence f; length = lengthOf t })) (sym checks-outlined)
 
 -- ---- no whole outline
 -- a refusal says nothing of the frame but its length
@@ -94,20 +94,20 @@ module _ (t : List ℕ) (a : Answer) (e : outlineOf t ≡ Not a) where
   unfolding answerOf
   answer-not =
       not-outlined t a e .1
-      ∙ named-refusal (firstFail (outlineChecks t)) (record { format = 0; seq = 0; length = lengthOf t }) (record { format = format (own t); seq = number (own t); length = lengthOf t })
+      ∙ named-refusal (firstFail (outlineChecks t)) (record { format = 0; seq = 0; length = lengthOf t }) (record { format = format (own t); seq = sequence (own t); length = lengthOf t })
       (not-outlined t a e .0) refl
-      ∙ ap (λ (n : ℕ). named n (record { format = format (own t); seq = number (own t); length = lengthOf t })) (sym checks-not)
+      ∙ ap (λ (n : ℕ). named n (record { format = format (own t); seq = sequence (own t); length = lengthOf t })) (sym checks-not)
 
   pub message-not : {M : Type 0} (C : Codec M) (none : M) → none ≡ messageBy C none t
   unfolding messageBy
   message-not C none =
-      sym (ap (λ (b : Bool). cond (b && eqb (format (own t)) (C .form .number)) (C .message (number (own t)) (valuesOf (C .form) (body (own t)))) none)
+      sym (ap (λ (b : Bool). cond (b && eqb (format (own t)) (C .form .number)) (C .message (sequence (own t)) (valuesOf (C .form) (body (own t)))) none)
       (ap (λ (n : ℕ). eqb n 0) checks-not ∙ ne-eqb (firstFail (outlineChecks t)) 0 (not-outlined t a e .0)))
 
 -- ---- the message of the format that is asked for
 module _ {M : Type 0} (C : Codec M) (none : M) (listed : Listed (C .form) formats) (t : List ℕ) (o : Outlined t) where
   abbrev given : M
-  given = C .message (number (own t)) (valuesOf (C .form) (body (own t)))
+  given = C .message (sequence (own t)) (valuesOf (C .form) (body (own t)))
 
   module _ (bu : business (own t) ≡ 1) (fm : format (own t) ≡ C .form .number) (ve : version (own t) ≡ C .form .version) where
     pub checks-body : firstFail (checks t) ≡ firstFail (bodyChecks (C .form) (body (own t)))

@@ -9,7 +9,7 @@ use lib.Dec.{eqb, leb}
 use borrow.Author.Tests.{eqb-true, le-leb}
 use Rattle.layout.specs.Checks.{firstFail}
 use Rattle.answers.specs.Answers.{named, answerNumber, answerValues}
-use Rattle.stock_frame.specs.Outline.{lengthOf, own, body, business, format, version, number, outlineChecks, outlineOf}
+use Rattle.stock_frame.specs.Outline.{lengthOf, own, body, business, format, version, sequence, outlineChecks, outlineOf}
 use Rattle.stock_frame.specs.Format.{valuesOf, bodyChecks}
 use Rattle.stock_frame.specs.Writing.{writtenOver}
 use Rattle.stock_frame.specs.Codec.{Codec, frameOf}
@@ -43,7 +43,7 @@ use Rattle.stock_reading.proofs.ReadingLaws.{checks-body, message-hit, 
 -- ---- an answer's number is the first check that fails, and only acceptance has none
 pub answer-number : (t : List ℕ) → answerNumber (answerOf t) ≡ firstFail (checks t)
 unfolding answerOf
-answer-number t = number-named (firstFail (checks t)) (record { format = format (own t); seq = number (own t); length = lengthOf t })
+answer-number t = number-named (firstFail (checks t)) (record { format = format (own t); seq = sequence (own t); length = lengthOf t })
 
 named-accepted : (n : ℕ) (f g : Frame) → named n f ≡ Accepted g → f ≡ g
 named-accepted n f g e = go (eqb n 0) (leb n 5) e
@@ -84,11 +84,11 @@ checks-at-most : (t : List ℕ) → firstFail (checks t) ≤ 13
 unfolding checks
 checks-at-most t = fails-at-most 13 (checks t) refl
 
-answer-values : (t : List ℕ) → answerValues (answerOf t) ≡ beside (answerNumber (answerOf t)) (format (own t) ∷ number (own t) ∷ lengthOf t ∷ []) (lengthOf t)
+answer-values : (t : List ℕ) → answerValues (answerOf t) ≡ beside (answerNumber (answerOf t)) (format (own t) ∷ sequence (own t) ∷ lengthOf t ∷ []) (lengthOf t)
 unfolding answerOf
 answer-values t =
-    values-named (firstFail (checks t)) (record { format = format (own t); seq = number (own t); length = lengthOf t })
-    ∙ ap (λ (n : ℕ). beside n (format (own t) ∷ number (own t) ∷ lengthOf t ∷ []) (lengthOf t)) (sym (answer-number t))
+    values-named (firstFail (checks t)) (record { format = format (own t); seq = sequence (own t); length = lengthOf t })
+    ∙ ap (λ (n : ℕ). beside n (format (own t) ∷ sequence (own t) ∷ lengthOf t ∷ []) (lengthOf t)) (sym (answer-number t))
 
 pub answer-says : (t : List ℕ) → AnswerSays t
 answer-says t = record {
@@ -114,13 +114,13 @@ outline-answers t h = go (outlineOf t) refl
 module _ {M : Type 0} (C : Codec M) (Shaped : M → Type 0) (law : Lawful C Shaped) (none : M)
     (listed : Listed (C .form) formats) where
   pub reads-accepted : (t : List ℕ) (m : M) → Reads C t m
-      → (answerOf t ≡ Accepted (record { format = C .form .number; seq = number (own t); length = lengthOf t })) × (messageBy C none t ≡ m)
+      → (answerOf t ≡ Accepted (record { format = C .form .number; seq = sequence (own t); length = lengthOf t })) × (messageBy C none t ≡ m)
   unfolding answerOf
   reads-accepted t m rd =
       let zero = checks-body C none listed t (rd .outlined) (rd .is-business) (rd .is-format) (rd .is-version) ∙ bodied-passes (C .form) (body (own t)) (rd .bodied) in
       let hit = message-hit C none listed t (rd .outlined) (rd .is-business) (rd .is-format) (rd .is-version) in (
-        (λ i. named (zero i) (record { format = rd .is-format i; seq = number (own t); length = lengthOf t })),
-        sym hit ∙ ap (λ (n : ℕ). cond (eqb n 0) (C .message (number (own t)) (valuesOf (C .form) (body (own t)))) none) (bodied-passes (C .form) (body (own t)) (rd .bodied)) ∙ sym (rd .meant),
+        (λ i. named (zero i) (record { format = rd .is-format i; seq = sequence (own t); length = lengthOf t })),
+        sym hit ∙ ap (λ (n : ℕ). cond (eqb n 0) (C .message (sequence (own t)) (valuesOf (C .form) (body (own t)))) none) (bodied-passes (C .form) (body (own t)) (rd .bodied)) ∙ sym (rd .meant),
       )
 
   pub accepted-reads : (t : List ℕ) (f : Frame) → answerOf t ≡ Accepted f → f .format ≡ C .form .number → Reads C t (messageBy C none t)
@@ -129,7 +129,7 @@ module _ {M : Type 0} (C : Codec M) (Shaped : M → Type 0) (law : Lawful C Shap
       let z : firstFail (checks t) ≡ 0 = sym (answer-number t) ∙ ap answerNumber e in
       let o = checks-apart t z in
       let fm : format (own t) ≡ C .form .number =
-      ap (λ (x : Frame). x .format) (named-accepted (firstFail (checks t)) (record { format = format (own t); seq = number (own t); length = lengthOf t }) f e) ∙ n in
+      ap (λ (x : Frame). x .format) (named-accepted (firstFail (checks t)) (record { format = format (own t); seq = sequence (own t); length = lengthOf t }) f e) ∙ n in
       let h = header-accepted t z in
       let bu = h .0 in
       let ve = h .2 ∙ ap (λ (x : ℕ). formatOf x .version) fm ∙ same-version (C .form) listed in
@@ -142,7 +142,7 @@ module _ {M : Type 0} (C : Codec M) (Shaped : M → Type 0) (law : Lawful C Shap
         bodied = passes-bodied (C .form) (body (own t)) bz;
         meant =
             sym (message-hit C none listed t o bu fm ve)
-            ∙ ap (λ (x : ℕ). cond (eqb x 0) (C .message (number (own t)) (valuesOf (C .form) (body (own t)))) none) bz;
+            ∙ ap (λ (x : ℕ). cond (eqb x 0) (C .message (sequence (own t)) (valuesOf (C .form) (body (own t)))) none) bz;
       }
 
   -- ---- the promises

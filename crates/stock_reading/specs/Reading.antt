@@ -6,7 +6,7 @@ use lib.ListN.{length}
 use lib.Dec.{eqb}
 use Rattle.layout.specs.Checks.{Check, must, firstFail}
 use Rattle.answers.specs.Answers.{named}
-use Rattle.stock_frame.specs.Outline.{lengthOf, own, body, business, format, version, number, outlineChecks}
+use Rattle.stock_frame.specs.Outline.{lengthOf, own, body, business, format, version, sequence, outlineChecks}
 use Rattle.stock_frame.specs.Format.{Format, valuesOf, bodyChecks}
 use Rattle.stock_frame.specs.Formats.{isOneOf, firstOf}
 use Rattle.stock_frame.specs.Codec.{Codec}
@@ -47,13 +47,13 @@ checks t =
 
 -- the answer: the first check that fails, or acceptance
 unfoldable pub answerOf : List ℕ → Answer
-answerOf t = named (firstFail (checks t)) (record { format = format (own t); seq = number (own t); length = lengthOf t })
+answerOf t = named (firstFail (checks t)) (record { format = format (own t); seq = sequence (own t); length = lengthOf t })
 
 -- the message of an accepted frame of a codec's format; of anything else, none
 unfoldable pub messageBy : {M : Type 0} → Codec M → M → List ℕ → M
 messageBy C none t =
     let f = own t in
-    cond (eqb (firstFail (checks t)) 0 && eqb (format f) (C .form .number)) (C .message (number f) (valuesOf (C .form) (body f))) none
+    cond (eqb (firstFail (checks t)) 0 && eqb (format f) (C .form .number)) (C .message (sequence f) (valuesOf (C .form) (body f))) none
 
 -- a reading of any frame, with the message if it is of the format that is asked for
 abbrev pub noticeAt : List ℕ → NoticeReading

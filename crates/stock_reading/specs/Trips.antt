@@ -9,7 +9,7 @@ use Rattle.layout.specs.Checks.{firstFail}
 use Rattle.answers.specs.Answers.{answerNumber, answerValues}
 use Rattle.answers.specs.declared.Frame.{Frame}
 use Rattle.answers.specs.declared.Answer.the-variants.{Accepted}
-use Rattle.stock_frame.specs.Outline.{lengthOf, own, format, number}
+use Rattle.stock_frame.specs.Outline.{lengthOf, own, format, sequence}
 use Rattle.stock_frame.specs.Writing.{writtenOver}
 use Rattle.stock_frame.specs.Codec.{Codec, legal, frameOf}
 use Rattle.layout.specs.Checks.{allHold}
@@ -27,7 +27,7 @@ pub record AnswerSays (t : List ℕ) : Type 0 where
   pub first : answerNumber (answerOf t) ≡ firstFail (checks t)
   pub at-most : answerNumber (answerOf t) ≤ 13
   -- beside 0 the format, the number and the length, beside 1 to 5 nothing, beside the others the length
-  pub values : answerValues (answerOf t) ≡ beside (answerNumber (answerOf t)) (format (own t) ∷ number (own t) ∷ lengthOf t ∷ []) (lengthOf t)
+  pub values : answerValues (answerOf t) ≡ beside (answerNumber (answerOf t)) (format (own t) ∷ sequence (own t) ∷ lengthOf t ∷ []) (lengthOf t)
 
 -- the messages of one format
 pub record Trips {M : Type 0} (C : Codec M) (Shaped : M → Type 0) (none : M) : Type 0 where
@@ -35,7 +35,7 @@ pub record Trips {M : Type 0} (C : Codec M) (Shaped : M → Type 0) (none : M) :
   pub means : (t : List ℕ) (f : Frame) → answerOf t ≡ Accepted f → f .format ≡ C .form .number → Reads C t (messageBy C none t)
   -- bytes that begin with such a frame are accepted
   pub accepts : (t : List ℕ) (m : M) → Reads C t m
-      → (answerOf t ≡ Accepted (record { format = C .form .number; seq = number (own t); length = lengthOf t })) × (messageBy C none t ≡ m)
+      → (answerOf t ≡ Accepted (record { format = C .form .number; seq = sequence (own t); length = lengthOf t })) × (messageBy C none t ≡ m)
   -- writing an accepted message into enough room gives the frame's own bytes back, and no other byte changes
   pub write-read : (t : List ℕ) (f : Frame) (buf : List ℕ) → answerOf t ≡ Accepted f → f .format ≡ C .form .number → length (own t) ≤ length buf
       → writtenOver (legal C (messageBy C none t)) (frameOf C (messageBy C none t)) buf ≡ own t ++ drop (length (own t)) buf
