@@ -32,15 +32,14 @@ pub(crate) enum FiguresField {
     Bad,
 }
 
-// A slot, and whether checks 12 and 13 hold of it; where a digit is bad only that is said.
+// A slot, and whether its time is right; both say nothing where a digit is bad.
 pub(crate) struct SlotField {
     pub good: bool,
     pub timed: bool,
-    pub ruled: bool,
     pub slot: Slot,
 }
 
-// The same of all ten.
+// All ten, and whether checks 12 and 13 hold of them; where a digit is bad only that is said.
 pub(crate) struct SlotsField {
     pub good: bool,
     pub timed: bool,
@@ -81,7 +80,6 @@ fn bad_slot() -> SlotField
     SlotField {
         good: false,
         timed: false,
-        ruled: false,
         slot,
     }
 }
@@ -89,7 +87,7 @@ fn bad_slot() -> SlotField
 // The 36 bytes of a slot, counted or not.
 fn slot_at(body: &[u8], at: usize, counted: bool) -> SlotField
     requires { ⌜ at + 36 ≤ length (now body) ⌝ }
-    ensures { λ r. ⌜ (r .good ≡ goodCells slotCells (drop at (now (body .entry)))) × (r .good ≡ true → (r .slot ≡ slotOf (decode slotCells (drop at (now (body .entry))))) × (r .timed ≡ slotTimed counted (decode slotCells (drop at (now (body .entry))))) × (r .ruled ≡ slotRuled counted (decode slotCells (drop at (now (body .entry)))))) ⌝ }
+    ensures { λ r. ⌜ (r .good ≡ goodCells slotCells (drop at (now (body .entry)))) × (r .good ≡ true → (r .slot ≡ slotOf (decode slotCells (drop at (now (body .entry))))) × (r .timed ≡ slotTimed counted (decode slotCells (drop at (now (body .entry)))))) ⌝ }
 {
     let FiguresField::Is(figures) = figures_at(body, at) else {
         return bad_slot();
@@ -115,11 +113,9 @@ fn slot_at(body: &[u8], at: usize, counted: bool) -> SlotField
         time,
     };
     let timed = time_right(h.first, h.last, counted);
-    let ruled = slot_right(slot, counted);
     SlotField {
         good: true,
         timed,
-        ruled,
         slot,
     }
 }
@@ -143,7 +139,8 @@ pub(crate) fn slots_in(body: &[u8], n: usize) -> SlotsField
     let mut i = 0;
     let mut at = 1;
     while i < 10 {
-        let f = slot_at(body, at, i < n);
+        let counted = i < n;
+        let f = slot_at(body, at, counted);
         if !f.good {
             return SlotsField {
                 good: false,
@@ -155,7 +152,7 @@ pub(crate) fn slots_in(body: &[u8], n: usize) -> SlotsField
         let s = f.slot;
         slots[i] = s;
         timed = both(timed, f.timed);
-        ruled = both(ruled, f.ruled);
+        ruled = both(ruled, slot_right(s, counted));
         at += SLOT;
         i += 1;
     }

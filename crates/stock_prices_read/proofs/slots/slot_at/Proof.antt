@@ -13,7 +13,7 @@ use Rattle.words.specs.declared.blocks.Block.{Block}
 use Rattle.codes_times.proofs.RuleLaws.{code-in}
 use Rattle.stock_prices.proofs.AndLaws.{none, later}
 use Rattle.stock_prices_read.specs.Steps.{figuresGood, figuresOf}
-use Rattle.stock_prices_read.proofs.SlotReads.{part, time-good, time-fits, time-value, slot-good, figures-bad, figures-is, slot-bad, slot-is, timed-is, ruled-is}
+use Rattle.stock_prices_read.proofs.SlotReads.{part, time-good, time-fits, time-value, slot-good, figures-bad, figures-is, slot-bad, slot-is, timed-is}
 use Rattle.stock_prices_read.proofs.slots.slot_at.Statement.{statement}
 use Rattle.stock_prices_read.proofs.slots.slot_at.Tie as tie
 
@@ -106,12 +106,9 @@ add-time c = search needs
 time-right-requires : tie.Need-time-right-requires
 time-right-requires c κs = search needs
 
-slot-right-requires : tie.Need-slot-right-requires
-slot-right-requires c κs = search needs
-
 returns-3 : tie.Need-returns-3
 returns-3 c =
-    let f = c .before .before .before .before .before .before .before .before .before in
+    let f = c .before .before .before .before .before .before .before .before in
     let k = f .before in
     let p = prices k in
     let e = slot-is (bytes p) (place p) (start p .pre) (f .code-at .result) (p .before .figures .given .0 .0) (time k .first * 100000000 + time k .last)
@@ -120,8 +117,7 @@ returns-3 c =
       sym (slot-good (bytes p) (place p) ∙ and-both (told p .0) (whole k)),
       λ u. (
         e,
-        c .before .time-right .ensures ∙ timed-is (bytes p) (place p) (start p .pre) (start p .args .counted) _ e (time k .first) (time k .last) (eight k) refl,
-        c .slot-right .ensures ∙ ruled-is (bytes p) (place p) (start p .pre) (start p .args .counted) _ e,
+        c .time-right .ensures ∙ timed-is (bytes p) (place p) (start p .pre) (start p .args .counted) _ e (time k .first) (time k .last) (eight k) refl,
       ),
     )
 
@@ -144,5 +140,4 @@ slot-at-spec =
     cast-time-2
     add-time
     time-right-requires
-    slot-right-requires
     returns-3)

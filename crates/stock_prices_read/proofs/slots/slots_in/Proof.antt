@@ -8,8 +8,10 @@ use native.Mathlib.Omega.{arith}
 use borrow.Author.Needs.{needs}
 use borrow.Author.Tests.{not-true, not-false}
 use lib.ListN.{length, take, length-set}
+use lib.Dec.{ltb}
 use Rattle.digits.proofs.Bools.{no-false}
 use Rattle.stock_prices.specs.Prices.{slotTimed, slotRuled}
+use Rattle.stock_prices_read.proofs.SlotReads.{ruled-is}
 use Rattle.stock_prices_read.proofs.SlotsRead.{goodFrom, slotsFrom, passFrom, turn-bad, turn-good, turn-slots, turn-pass, done-good, done-slots, done-pass}
 use Rattle.stock_prices_read.proofs.slots.slots_in.Statement.{statement}
 use Rattle.stock_prices_read.proofs.slots.slots_in.Tie as tie
@@ -61,6 +63,9 @@ array-set-from-slots c = search needs
 both-requires : tie.Need-both-requires Inv-loop μ-loop
 both-requires c κs = search needs
 
+slot-right-requires : tie.Need-slot-right-requires Inv-loop μ-loop
+slot-right-requires c κs = search needs
+
 both-requires-2 : tie.Need-both-requires-2 Inv-loop μ-loop
 both-requires-2 c κs = search needs
 
@@ -75,7 +80,7 @@ loop-less c = search needs
 
 loop-again : tie.Need-loop-again Inv-loop μ-loop
 loop-again c =
-    let k = c .before .before .before in
+    let k = c .before .before .before .before in
     let f = k .before .before .slot-at in
     let l = k .before .before .before .before .loop in
     let a = k .before .before .before .before .before .before .before .args in
@@ -87,8 +92,9 @@ loop-again c =
       length-set (l .slots) (l .i) _ ∙ l .inv .2,
       turn-good b (l .slots) (l .i) (l .at) (omega arith) (l .inv .2) (l .inv .3) (l .inv .4) (sym (f .ensures .0) ∙ good),
       turn-slots b (l .slots) (l .i) (l .at) (omega arith) (l .inv .2) (l .inv .3) (l .inv .4) _ (told .0),
-      turn-pass b (l .slots) (l .i) (l .at) (omega arith) (l .inv .2) (l .inv .3) (l .inv .4) slotTimed (a .n) (l .timed) (l .inv .5) (told .1) (c .before .both .ensures),
-      turn-pass b (l .slots) (l .i) (l .at) (omega arith) (l .inv .2) (l .inv .3) (l .inv .4) slotRuled (a .n) (l .ruled) (l .inv .6) (told .2) (c .both2 .ensures),
+      turn-pass b (l .slots) (l .i) (l .at) (omega arith) (l .inv .2) (l .inv .3) (l .inv .4) slotTimed (a .n) (l .timed) (l .inv .5) (told .1) (c .before .before .both .ensures),
+      turn-pass b (l .slots) (l .i) (l .at) (omega arith) (l .inv .2) (l .inv .3) (l .inv .4) slotRuled (a .n) (l .ruled) (l .inv .6)
+          (c .before .slot-right .ensures ∙ ruled-is b (l .at) (omega arith) (ltb (l .i) (a .n)) _ (told .0)) (c .both2 .ensures),
     )
 
 returns-2 : tie.Need-returns-2 Inv-loop μ-loop
@@ -117,6 +123,7 @@ slots-in-spec =
     mul-slots
     array-set-from-slots
     both-requires
+    slot-right-requires
     both-requires-2
     add-at
     add-i
