@@ -1,5 +1,6 @@
 // Format six, live quotes: the message, what its reveal byte shows, and the rules that reading and writing share.
 ghost use mathlib.Core.Path.{_≡_};
+ghost use Prim.Native.Nat.{_+_, _*_};
 ghost use Rattle.stock_quotes.specs.Reveal.{revealed, levelsRight};
 ghost use Rattle.stock_quotes.specs.Quotes.{bodyLength, quoteTimed, noPair, noQuote};
 use amounts::Pair;
@@ -67,11 +68,15 @@ const FIXED: usize = 19;
 
 const PAIR: usize = 9;
 
-// The largest number of twelve digits.
-const ALL_NINES: u64 = 999_999_999_999;
+// A time's first four digits count with eight behind them; of the eight, six are fractions of a second.
+const BEHIND: u64 = 100_000_000;
 
-// The fractions of a second.
-const FRACTIONS: u64 = 1_000_000;
+const FRACTIONS: u32 = 1_000_000;
+
+// All nines in the six digits of HHMMSS, and in a time's twelve.
+const MOST_SECOND: u64 = 999_999;
+
+const MOST_TIME: u64 = 999_999_999_999;
 
 // Check 9: the length of the body that a reveal byte dictates.
 pub fn body_length(reveal: u8) -> usize
@@ -110,15 +115,16 @@ pub fn empty() -> Quote
     }
 }
 
-// Check 12: a quote's time is all nines exactly with the code `000000`, else a time of day.
-pub fn timed(code: &[u8], time: u64) -> bool
-    ensures { λ r. ⌜ r ≡ quoteTimed (now (code .entry)) time ⌝ }
+// Check 12 of a time by its parts, HHMM and SSffffff: all nines exactly with the code `000000`, else a time of day.
+pub fn timed(code: &[u8], first: u32, last: u32) -> bool
+    ensures { λ r. ⌜ r ≡ quoteTimed (now (code .entry)) (first * 100000000 + last) ⌝ }
 {
-    if ALL_NINES < time {
+    if codes_times::zero_code(code) {
+        return first as u64 * BEHIND + last as u64 == MOST_TIME;
+    }
+    let second = first as u64 * 100 + (last / FRACTIONS) as u64;
+    if MOST_SECOND < second {
         return false;
     }
-    if codes_times::zero_code(code) {
-        return time == ALL_NINES;
-    }
-    codes_times::time_of_day((time / FRACTIONS) as u32)
+    codes_times::time_of_day(second as u32)
 }

@@ -22,7 +22,7 @@ use Rattle.codes_times.proofs.RuleLaws.{six-bytes}
 use Rattle.stock_quotes.specs.declared.Reveal.{Reveal}
 use Rattle.stock_quotes.specs.Reveal.{revealed, levelsRight, pairCount}
 use Rattle.stock_quotes.specs.Quotes.{pairCells, sixCells, bodyLength, codeOf, timeOf, sixLevels, quoteTimed, sixTimed, six, noPair, pairsOf, pairsIn, padded, tradePart, bidPart, askPart, quoteReading}
-use Rattle.stock_quotes_read.specs.Steps.{refusedReading, acceptedReading, Dictated, Parts}
+use Rattle.stock_quotes_read.specs.Steps.{refusedReading, acceptedReading, Dictated, SidesOf, FixedOf}
 use Rattle.stock_quotes.proofs.PairLaws.{length-pairsOf, length-pairCells, length-dictated, first-part, second-part, third-part}
 use Rattle.stock_quotes.proofs.QuoteLaws.{quoteWith, reveal-read}
 use Rattle.stock_quotes_read.proofs.SideLaws.{pairs-append}
@@ -152,15 +152,14 @@ module _ (seq : ℕ) (b : List ℕ) (r : Reveal) (d : Dictated b r) where
   ask-part-is =
       sym (third-part (r .trades) (r .bids) (r .asks) ts bs cs long-ts long-bs long-cs) ∙ ap (λ (x : Reveal). askPart x (ts ++ (bs ++ cs))) (d .shown)
 
-  pub accepts : (time : ℕ) (total : Quantity) (trade : Pair) (bids asks : List Pair) → Parts b r time total trade bids asks
+  pub accepts : (first last : ℕ) (total : Quantity) (trade : Pair) (bids asks : List Pair) → FixedOf b first last total → SidesOf b r trade bids asks
       → goodCells (sixCells n) b ≡ true → sixTimed (valuesOf six b) ≡ true → codeRight (take 6 b) ≡ true
-      → acceptedReading seq b time total trade bids asks ≡ quoteReading seq b
-  accepts time total trade bids asks p g t e =
+      → acceptedReading seq b (first * 100000000 + last) total trade bids asks ≡ quoteReading seq b
+  accepts first last total trade bids asks p s g t e =
       let k = pairCount (revealed (getD b 12 0)) in
-      let s = p .sides-are in
       let limit = limit-six k b in
       let status = status-six k b in
-      let parts-said : acceptedReading seq b time total trade bids asks
+      let parts-said : acceptedReading seq b (first * 100000000 + last) total trade bids asks
       ≡ acceptedReading seq b (value (take 6 (drop 6 b))) (asQuantity (value (take 4 (drop 15 b))))
       (getD (tradePart R (ts ++ (bs ++ cs))) 0 noPair) (padded (bidPart R (ts ++ (bs ++ cs)))) (padded (askPart R (ts ++ (bs ++ cs)))) =
       λ i. acceptedReading seq b (p .time-is i) (p .total-is i)

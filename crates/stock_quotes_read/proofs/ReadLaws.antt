@@ -1,7 +1,7 @@
 -- A quote's body read by its parts: what stands at each place, and what the packed fields hold.
 use Prim.Native.Nat.{ℕ, _+_, _-_, _*_, _^_, _≤_, _<_}
 use mathlib.Core.Path.{_≡_, refl, sym, ap, ap₂, _∙_}
-use mathlib.Core.Bool.{Bool, true, false, cond, _&&_}
+use mathlib.Core.Bool.{Bool, true, false, cond, _&&_, and-assoc, and-true, and-false}
 use mathlib.Core.List.{List, [], _∷_}
 use native.Mathlib.Omega.{arith}
 use lib.ListN.{length, getD, take, drop, length-drop}
@@ -30,7 +30,7 @@ use Rattle.stock_quotes.specs.Reveal.{revealed, levelsRight, pairCount}
 use Rattle.stock_quotes.specs.Quotes.{pairCells, sixCells, bodyLength, codeOf, timeOf, six, noPair, noQuote, pairsOf, pairsIn, padded, quoteOf, quoteReading}
 use Rattle.stock_quotes.proofs.RevealLaws.{trades-lt, bids-few, asks-few}
 use Rattle.stock_quotes.proofs.PairLaws.{length-dictated}
-use Rattle.stock_quotes_read.specs.Steps.{Dictated, SidesOf}
+use Rattle.stock_quotes_read.specs.Steps.{Dictated, SidesOf, fixedGood, FixedOf}
 use Rattle.stock_quotes_read.proofs.SideLaws.{good-append}
 
 -- ---- the cells' places
@@ -101,24 +101,64 @@ dictated b r shown right as-long = record {
   as-long = as-long ∙ sym (length-dictated r (getD b 12 0) shown);
 }
 
--- what stands beside digits that are not good
-pub bad-digits : {X : Type 0} (g w : Bool) → g ≡ false → false ≡ w → (g ≡ w) × (g ≡ true → X)
-bad-digits g w e p = (e ∙ p, λ z. absurd (no-false (sym e ∙ z)))
+module _ (b : List ℕ) (long : 19 ≤ length b) where
+  time-long : length (take 6 (drop 6 b)) ≡ 6
+  time-long = length-take-le 6 (drop 6 b) (rw length-drop (omega arith))
+
+  good-fixed : goodField 12 (take 6 (drop 6 b)) && goodField 8 (take 4 (drop 15 b)) ≡ fixedGood b
+  good-fixed = ap (λ (t : Bool). t && goodField 8 (take 4 (drop 15 b))) (even-field 12 (take 6 (drop 6 b)) (ap (λ (n : ℕ). 100 ^ n) (sym time-long)))
+
+  time-halves : {h : Block} → h ≡ blockAt 6 2 (take 6 (drop 6 b)) 0 → h ≡ blockOf 2 (take 6 (drop 6 b))
+  time-halves e =
+      e ∙ inside 6 0 (take 6 (drop 6 b)) (blockOf 2 (take 6 (take 6 (drop 6 b)))) noBlock (omega (arith, time-long))
+      ∙ ap (blockOf 2) (take-take 6 6 (drop 6 b) (omega arith))
+
+  time-flag : {h : Block} → h ≡ blockAt 6 2 (take 6 (drop 6 b)) 0 → h .good ≡ good (take 6 (drop 6 b))
+  time-flag e = ap (λ (x : Block). x .good) (time-halves e)
+
+  total-place : quantityAt (take 4 (drop 15 b)) 0 ≡ quantityOf (take 4 (drop 15 b))
+  total-place =
+      let long : length (take 4 (drop 15 b)) ≡ 4 = length-take-le 4 (drop 15 b) (rw length-drop (omega arith)) in
+      inside 4 0 (take 4 (drop 15 b)) (quantityOf (take 4 (take 4 (drop 15 b)))) QuantityField.Bad (omega arith)
+      ∙ ap quantityOf (take-take 4 4 (drop 15 b) (omega arith))
+
+  total-good : (q : Quantity) → quantityAt (take 4 (drop 15 b)) 0 ≡ QuantityField.Is q → (goodField 8 (take 4 (drop 15 b)) ≡ true) × (q ≡ asQuantity (value (take 4 (drop 15 b))))
+  total-good q e = go (goodField 8 (take 4 (drop 15 b))) (sym total-place ∙ e)
+    where
+      go : (t : Bool) → cond t (QuantityField.Is (asQuantity (value (take 4 (drop 15 b))))) QuantityField.Bad ≡ QuantityField.Is q
+          → (t ≡ true) × (q ≡ asQuantity (value (take 4 (drop 15 b))))
+      go true p = (refl, cc)
+      go false p = (cc, cc)
+
+  total-bad : quantityAt (take 4 (drop 15 b)) 0 ≡ QuantityField.Bad → goodField 8 (take 4 (drop 15 b)) ≡ false
+  total-bad e = go (goodField 8 (take 4 (drop 15 b))) (sym total-place ∙ e)
+    where
+      go : (t : Bool) → cond t (QuantityField.Is (asQuantity (value (take 4 (drop 15 b))))) QuantityField.Bad ≡ QuantityField.Bad → t ≡ false
+      go true p = cc
+      go false p = refl
+
+  time-said : {h : Block} → h ≡ blockAt 6 2 (take 6 (drop 6 b)) 0 → h .first * 100000000 + h .last ≡ value (take 6 (drop 6 b))
+  time-said {h} e =
+      let w = take 6 (drop 6 b) in
+      let four : length (drop 2 w) ≡ 4 = rw length-drop (omega (arith, time-long)) in
+      ap₂ (λ (x y : ℕ). x * 100000000 + y) (ap (λ (x : Block). x .first) (time-halves e)) (ap (λ (x : Block). x .last) (time-halves e))
+      ∙ ap (λ (n : ℕ). value (take 2 w) * 100 ^ n + value (drop 2 w)) (sym four) ∙ sym (value-parts 2 w)
+
+  -- what the two fields hold where the total's digits are good, and where not
+  pub fixed-read : {h : Block} (q : Quantity) → h ≡ blockAt 6 2 (take 6 (drop 6 b)) 0 → quantityAt (take 4 (drop 15 b)) 0 ≡ QuantityField.Is q
+      → (h .good ≡ fixedGood b) × (h .good ≡ true → FixedOf b (h .first) (h .last) q)
+  fixed-read {h} q e f =
+      let t = total-good q f in (
+        time-flag e ∙ sym (and-true (good (take 6 (drop 6 b)))) ∙ ap (λ (x : Bool). good (take 6 (drop 6 b)) && x) (sym (t .0)),
+        λ g. record { time-is = time-said e; total-is = t .1 },
+      )
+
+  pub fixed-bad : {X : Type 0} → quantityAt (take 4 (drop 15 b)) 0 ≡ QuantityField.Bad → (false ≡ fixedGood b) × (false ≡ true → X)
+  fixed-bad f =
+      (sym (and-false (good (take 6 (drop 6 b)))) ∙ ap (λ (x : Bool). good (take 6 (drop 6 b)) && x) (sym (total-bad f)), λ z. absurd (no-false z))
 
 module _ (b : List ℕ) (r : Reveal) (d : Dictated b r) where
-  long : 19 ≤ length b
-  long = omega (arith, d .as-long)
-
-  time-long : length (take 6 (drop 6 b)) ≡ 6
-  time-long = length-take-le 6 (drop 6 b) (rw length-drop (omega (arith, long)))
-
   -- ---- the digits of each part
-  abbrev goodTime : Bool
-  goodTime = good (take 6 (drop 6 b))
-
-  abbrev goodTotal : Bool
-  goodTotal = goodField 8 (take 4 (drop 15 b))
-
   abbrev goodPairs : Bool
   goodPairs = goodCells (pairCells (pairCount r)) (drop 19 b)
 
@@ -141,20 +181,17 @@ module _ (b : List ℕ) (r : Reveal) (d : Dictated b r) where
       (good-append (r .bids) (r .asks) (drop (9 * r .trades) (drop 19 b))
       ∙ ap₂ (λ (x y : List ℕ). goodCells (pairCells (r .bids)) x && goodCells (pairCells (r .asks)) y) bids-at asks-at))
 
-  good-parts : goodTime && (goodTotal && goodPairs) ≡ goodCells (sixCells (pairCount r)) b
+  good-parts : fixedGood b && goodPairs ≡ goodCells (sixCells (pairCount r)) b
   good-parts =
-      let e : goodField 12 (take 6 (drop 6 b)) ≡ goodTime = even-field 12 (take 6 (drop 6 b)) (ap (λ (n : ℕ). 100 ^ n) (sym time-long)) in
-      sym (good-six (pairCount r) b ∙ ap (λ (x : Bool). x && (goodTotal && goodPairs)) e)
+      ap (λ (x : Bool). x && goodPairs) (sym (good-fixed b (omega (arith, d .as-long))))
+      ∙ and-assoc (goodField 12 (take 6 (drop 6 b))) (goodField 8 (take 4 (drop 15 b))) goodPairs
+      ∙ sym (good-six (pairCount r) b)
 
-  pub bad-time : goodTime ≡ false → false ≡ goodCells (sixCells (pairCount r)) b
-  bad-time e = sym (ap (λ (t : Bool). t && (goodTotal && goodPairs)) e) ∙ good-parts
+  pub bad-fixed : fixedGood b ≡ false → goodCells (sixCells (pairCount r)) b ≡ false
+  bad-fixed e = sym good-parts ∙ ap (λ (x : Bool). x && goodPairs) e
 
-  module _ (t : goodTime ≡ true) where
-    pub bad-total : goodTotal ≡ false → false ≡ goodCells (sixCells (pairCount r)) b
-    bad-total e = sym (ap₂ (λ (x y : Bool). x && (y && goodPairs)) t e) ∙ good-parts
-
-    pub pairs-say : goodTotal ≡ true → goodPairs ≡ goodCells (sixCells (pairCount r)) b
-    pairs-say e = sym (ap₂ (λ (x y : Bool). x && (y && goodPairs)) t e) ∙ good-parts
+  pub pairs-say : fixedGood b ≡ true → (x : Bool) → goodPairs ≡ x → goodCells (sixCells (pairCount r)) b ≡ x
+  pairs-say e x p = sym good-parts ∙ ap₂ _&&_ e p
 
   -- ---- the sides
   -- the first of a trade's pairs
@@ -174,40 +211,3 @@ module _ (b : List ℕ) (r : Reveal) (d : Dictated b r) where
         bids-are = u (each 1);
         asks-are = v (each 2);
       }
-
-  -- ---- the time and the total
-  time-halves : {h : Block} → h ≡ blockAt 6 2 (take 6 (drop 6 b)) 0 → h ≡ blockOf 2 (take 6 (drop 6 b))
-  time-halves e =
-      e ∙ inside 6 0 (take 6 (drop 6 b)) (blockOf 2 (take 6 (take 6 (drop 6 b)))) noBlock (omega (arith, time-long))
-      ∙ ap (blockOf 2) (take-take 6 6 (drop 6 b) (omega arith))
-
-  pub time-flag : {h : Block} → h ≡ blockAt 6 2 (take 6 (drop 6 b)) 0 → h .good ≡ goodTime
-  time-flag e = ap (λ (x : Block). x .good) (time-halves e)
-
-  total-place : quantityAt (take 4 (drop 15 b)) 0 ≡ quantityOf (take 4 (drop 15 b))
-  total-place =
-      let long : length (take 4 (drop 15 b)) ≡ 4 = length-take-le 4 (drop 15 b) (rw length-drop (omega (arith, long))) in
-      inside 4 0 (take 4 (drop 15 b)) (quantityOf (take 4 (take 4 (drop 15 b)))) QuantityField.Bad (omega arith)
-      ∙ ap quantityOf (take-take 4 4 (drop 15 b) (omega arith))
-
-  pub total-good : (q : Quantity) → quantityAt (take 4 (drop 15 b)) 0 ≡ QuantityField.Is q → (goodTotal ≡ true) × (q ≡ asQuantity (value (take 4 (drop 15 b))))
-  total-good q e = go goodTotal (sym total-place ∙ e)
-    where
-      go : (t : Bool) → cond t (QuantityField.Is (asQuantity (value (take 4 (drop 15 b))))) QuantityField.Bad ≡ QuantityField.Is q
-          → (t ≡ true) × (q ≡ asQuantity (value (take 4 (drop 15 b))))
-      go true p = (refl, cc)
-      go false p = (cc, cc)
-
-  pub total-bad : quantityAt (take 4 (drop 15 b)) 0 ≡ QuantityField.Bad → goodTotal ≡ false
-  total-bad e = go goodTotal (sym total-place ∙ e)
-    where
-      go : (t : Bool) → cond t (QuantityField.Is (asQuantity (value (take 4 (drop 15 b))))) QuantityField.Bad ≡ QuantityField.Bad → t ≡ false
-      go true p = cc
-      go false p = refl
-
-  pub time-said : {h : Block} → h ≡ blockAt 6 2 (take 6 (drop 6 b)) 0 → h .first * 100000000 + h .last ≡ value (take 6 (drop 6 b))
-  time-said {h} e =
-      let w = take 6 (drop 6 b) in
-      let four : length (drop 2 w) ≡ 4 = rw length-drop (omega (arith, time-long)) in
-      ap₂ (λ (x y : ℕ). x * 100000000 + y) (ap (λ (x : Block). x .first) (time-halves e)) (ap (λ (x : Block). x .last) (time-halves e))
-      ∙ ap (λ (n : ℕ). value (take 2 w) * 100 ^ n + value (drop 2 w)) (sym four) ∙ sym (value-parts 2 w)

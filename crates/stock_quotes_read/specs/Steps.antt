@@ -1,10 +1,10 @@
 -- What the steps of reading a quote hand on to each other.
 use Prim.Native.Nat.{ℕ, _+_, _*_, _≤_}
 use mathlib.Core.Path.{_≡_}
-use mathlib.Core.Bool.{true}
+use mathlib.Core.Bool.{Bool, true, _&&_}
 use mathlib.Core.List.{List}
 use lib.ListN.{length, getD, take, drop}
-use Rattle.digits.specs.Packed.{value}
+use Rattle.digits.specs.Packed.{good, goodField, value}
 use Rattle.amounts.specs.Amounts.{asQuantity}
 use Rattle.amounts.specs.declared.Pair.{Pair}
 use Rattle.amounts.specs.declared.Quantity.{Quantity}
@@ -51,8 +51,10 @@ pub record SidesOf (b : List ℕ) (r : Reveal) (trade : Pair) (bids asks : List 
   pub bids-are : bids ≡ padded (pairsIn (r .bids) (drop (19 + 9 * r .trades) b))
   pub asks-are : asks ≡ padded (pairsIn (r .asks) (drop (19 + 9 * r .trades + 9 * r .bids) b))
 
--- what good packed fields hold: the time, the total and the pairs
-pub record Parts (b : List ℕ) (r : Reveal) (time : ℕ) (total : Quantity) (trade : Pair) (bids asks : List Pair) : Type 0 where
-  pub time-is : time ≡ value (take 6 (drop 6 b))
+-- the digits of the packed fields before the pairs, and what they hold: the time by its two parts, and the total
+abbrev pub fixedGood : List ℕ → Bool
+fixedGood b = good (take 6 (drop 6 b)) && goodField 8 (take 4 (drop 15 b))
+
+pub record FixedOf (b : List ℕ) (first last : ℕ) (total : Quantity) : Type 0 where
+  pub time-is : first * 100000000 + last ≡ value (take 6 (drop 6 b))
   pub total-is : total ≡ asQuantity (value (take 4 (drop 15 b)))
-  pub sides-are : SidesOf b r trade bids asks

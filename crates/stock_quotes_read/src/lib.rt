@@ -1,12 +1,12 @@
 // Reading the body of a format six frame.
 ghost use mathlib.Core.Path.{_≡_};
-ghost use mathlib.Core.Bool.{true, false};
+ghost use mathlib.Core.Bool.{true};
 ghost use Prim.Native.Nat.{_+_, _*_, _≤_};
 ghost use lib.ListN.{length, drop};
 ghost use Rattle.layout.specs.Cells.{goodCells};
 ghost use Rattle.stock_quotes.specs.Reveal.{sideRoom, pairCount};
-ghost use Rattle.stock_quotes.specs.Quotes.{quoteReading, pairCells, sixCells, pairsIn, padded};
-ghost use Rattle.stock_quotes_read.specs.Steps.{refusedReading, acceptedReading, Dictated, SidesOf, Parts};
+ghost use Rattle.stock_quotes.specs.Quotes.{quoteReading, pairCells, pairsIn, padded};
+ghost use Rattle.stock_quotes_read.specs.Steps.{refusedReading, acceptedReading, Dictated, SidesOf, fixedGood, FixedOf};
 use amounts::Pair;
 use amounts::PairField;
 use amounts::Quantity;
@@ -32,14 +32,13 @@ struct Sides {
     asks: [Pair; 5],
 }
 
-// The packed fields of a body: whether their digits are good, and what they hold.
-struct Packed {
+// The packed fields before a body's pairs: whether their digits are good, and what they hold.
+struct Fixed {
     good: bool,
-    time: u64,
+    // HHMM and SSffffff
+    first: u32,
+    last: u32,
     total: Quantity,
-    trade: Pair,
-    bids: [Pair; 5],
-    asks: [Pair; 5],
 }
 
 // A refusal, with the whole frame's length.
@@ -103,56 +102,38 @@ fn sides_at(body: &[u8], shown: Reveal) -> Sides
     }
 }
 
-fn bad_digit() -> Packed
-    ensures { λ r. ⌜ r .good ≡ false ⌝ }
-{
-    let none = no_pair();
-    Packed {
-        good: false,
-        time: 0,
-        total: Quantity(0),
-        trade: none,
-        bids: [none; 5],
-        asks: [none; 5],
-    }
-}
-
-fn packed_fields(body: &[u8], shown: Reveal) -> Packed
-    requires { ⌜ Dictated (now body) shown ⌝ }
-    ensures { λ r. ⌜ (r .good ≡ goodCells (sixCells (pairCount shown)) (now (body .entry))) × (r .good ≡ true → Parts (now (body .entry)) shown (r .time) (r .total) (r .trade) (r .bids) (r .asks)) ⌝ }
+// The time and the total.
+fn fixed_fields(body: &[u8]) -> Fixed
+    requires { ⌜ 19 ≤ length (now body) ⌝ }
+    ensures { λ r. ⌜ (r .good ≡ fixedGood (now (body .entry))) × (r .good ≡ true → FixedOf (now (body .entry)) (r .first) (r .last) (r .total)) ⌝ }
 {
     let time = words::blocks::six_at(&body[6..12], 0);
-    if !time.good {
-        return bad_digit();
-    }
-    let total = Quantity::from_digits(&body[15..19], 0);
-    let QuantityField::Is(quantity) = total else {
-        return bad_digit();
-    };
-    let sides = sides_at(body, shown);
-    let trade = sides.trade;
-    let bids = sides.bids;
-    let asks = sides.asks;
-    Packed {
-        good: sides.good,
-        time: (time.first as u64) * 100000000 + time.last as u64,
-        total: quantity,
-        trade: trade,
-        bids: bids,
-        asks: asks,
+    match Quantity::from_digits(&body[15..19], 0) {
+        QuantityField::Is(quantity) => Fixed {
+            good: time.good,
+            first: time.first,
+            last: time.last,
+            total: quantity,
+        },
+        QuantityField::Bad => Fixed {
+            good: false,
+            first: 0,
+            last: 0,
+            total: Quantity(0),
+        },
     }
 }
 
 // The quote of a body that passes every check.
-fn accepted(body: &[u8], seq: u32, p: Packed) -> QuoteReading
+fn accepted(body: &[u8], seq: u32, p: Fixed, sides: Sides) -> QuoteReading
     requires { ⌜ 19 ≤ length (now body) ⌝ }
-    ensures { λ r. ⌜ r ≡ acceptedReading seq (now (body .entry)) (p .time) (p .total) (p .trade) (p .bids) (p .asks) ⌝ }
+    ensures { λ r. ⌜ r ≡ acceptedReading seq (now (body .entry)) (p .first * 100000000 + p .last) (p .total) (sides .trade) (sides .bids) (sides .asks) ⌝ }
 {
     let code = codes_times::code_at(body, 0);
     let total = p.total;
-    let trade = p.trade;
-    let bids = p.bids;
-    let asks = p.asks;
+    let trade = sides.trade;
+    let bids = sides.bids;
+    let asks = sides.asks;
     QuoteReading {
         answer: Answer::Accepted(Frame {
             format: 6,
@@ -162,7 +143,7 @@ fn accepted(body: &[u8], seq: u32, p: Packed) -> QuoteReading
         quote: Quote {
             seq: seq,
             code: code,
-            time: p.time,
+            time: (p.first as u64) * 100000000 + p.last as u64,
             reveal: body[12],
             limit: body[13],
             status: body[14],
@@ -179,17 +160,21 @@ fn fields(body: &[u8], seq: u32, shown: Reveal) -> QuoteReading
     requires { ⌜ Dictated (now body) shown ⌝ }
     ensures { λ r. ⌜ r ≡ quoteReading seq (now (body .entry)) ⌝ }
 {
-    let p = packed_fields(body, shown);
+    let p = fixed_fields(body);
     if !p.good {
         return refused(11, body.len() + 13);
     }
-    if !stock_quotes::timed(&body[..6], p.time) {
+    let sides = sides_at(body, shown);
+    if !sides.good {
+        return refused(11, body.len() + 13);
+    }
+    if !stock_quotes::timed(&body[..6], p.first, p.last) {
         return refused(12, body.len() + 13);
     }
     if !codes_times::code_right(&body[..6]) {
         return refused(13, body.len() + 13);
     }
-    accepted(body, seq, p)
+    accepted(body, seq, p, sides)
 }
 
 // The body of a frame with this number.

@@ -1,7 +1,7 @@
 -- Which quotes are legal: the tests that the code makes, one by one, are what the format's rules come to.
-use Prim.Native.Nat.{ℕ, _+_, _*_, _^_, _≤_, _<_}
+use Prim.Native.Nat.{ℕ, zero, suc, _+_, _*_, _/_, _%_, _^_, _≤_, _<_}
 use mathlib.Core.Path.{_≡_, refl, sym, ap, ap₂, _∙_}
-use mathlib.Core.Bool.{Bool, true, false, _&&_}
+use mathlib.Core.Bool.{Bool, true, false, _&&_, and-false}
 use mathlib.Core.List.{List, [], _∷_, _++_}
 use native.Mathlib.Omega.{arith}
 use lib.ListN.{length, getD, take, drop, replicate}
@@ -10,7 +10,7 @@ use lib.Dec.{leb, ltb}
 use borrow.Author.Tests.{lt-ltb, ltb-true, le-leb, leb-true}
 use Rattle.amounts.specs.declared.Pair.{Pair}
 use Rattle.digits.specs.Tests.{allOf}
-use Rattle.digits.proofs.Bools.{and-both, both-true}
+use Rattle.digits.proofs.Bools.{and-both, both-true, no-false}
 use Rattle.digits.proofs.TestLaws.{holds, together, Each, all, _also_}
 use Rattle.layout.specs.Cells.{Cell, raw, digits, size, fits}
 use Rattle.layout.proofs.RawLaws.{fits-raws}
@@ -35,11 +35,42 @@ same true b f g = sym (f refl)
 same false true f g = g refl
 same false false f g = refl
 
+-- ---- a test that fails makes all fail
+fails : (bs : List Bool) (i : ℕ) → getD bs i true ≡ false → false ≡ allOf bs
+fails [] i e = sym e
+fails (b ∷ []) zero e = sym e
+fails (b ∷ []) (suc i) e = absurd (no-false (sym e))
+fails (b ∷ c ∷ bs) zero e = sym (ap (λ (t : Bool). t && allOf (c ∷ bs)) e)
+fails (b ∷ c ∷ bs) (suc i) e = sym (and-false b) ∙ ap (λ (t : Bool). b && t) (fails (c ∷ bs) i e)
+
+-- ---- the time by its two parts
+pub time-parts : (code : List ℕ) (t : ℕ) (r : Bool) → r ≡ quoteTimed code (t / 100000000 * 100000000 + t % 100000000) → r ≡ quoteTimed code t
+time-parts code t r e =
+    let whole : t / 100000000 * 100000000 + t % 100000000 ≡ t = omega arith in
+    e ∙ ap (quoteTimed code) whole
+
+pub time-long : (code : List ℕ) (t : ℕ) → 999999999999 < t → false ≡ quoteTimed code t
+time-long code t h = go (quoteTimed code t) refl
+  where
+    go : (x : Bool) → quoteTimed code t ≡ x → false ≡ x
+    go false e = refl
+    go true e = absurd (omega (arith, timed-small code t e))
+
 -- ---- the pairs' tests, one by one
 module _ (r : Reveal) (m : Quote) where
-  pub pairs-told : levelsRight r && (pairRight (ltb 0 (r .trades)) (m .trade) && (partRight (r .bids) (m .bids) && partRight (r .asks) (m .asks))) ≡ pairsRight r m
+  -- as the code makes them
+  abbrev coded : List Bool
+  coded = levelsRight r ∷ pairRight (ltb 0 (r .trades)) (m .trade) ∷ partRight (r .bids) (m .bids) ∷ partRight (r .asks) (m .asks) ∷ []
+
+  pairs-told : allOf coded ≡ pairsRight r m
   unfolding pairsRight
   pairs-told = ap (λ (t : Bool). levelsRight r && (t && (partRight (r .bids) (m .bids) && partRight (r .asks) (m .asks)))) (part-one (r .trades) (m .trade))
+
+  pub pairs-wrong : (i : ℕ) → getD coded i true ≡ false → false ≡ pairsRight r m
+  pairs-wrong i e = fails coded i e ∙ pairs-told
+
+  pub asks-last : levelsRight r ≡ true → pairRight (ltb 0 (r .trades)) (m .trade) ≡ true → partRight (r .bids) (m .bids) ≡ true → partRight (r .asks) (m .asks) ≡ pairsRight r m
+  asks-last l t b = sym (λ i. l i && (t i && (b i && partRight (r .asks) (m .asks)))) ∙ pairs-told
 
   pub each-pair : pairsRight r m ≡ true → (i : ℕ) → getD (pairTests r m) i true ≡ true
   unfolding pairsRight
@@ -181,5 +212,11 @@ module _ (m : Quote) (shaped : ShapedQuote m) where
       also (ruled-told ∙ test 2)
       also t .1 also b .1 also a .1 also all)
 
-  pub legal-told : allOf tests ≡ legal sixCodec m
+  legal-told : allOf tests ≡ legal sixCodec m
   legal-told = same (allOf tests) (legal sixCodec m) of-tests tests-of
+
+  pub illegal : (i : ℕ) → getD tests i true ≡ false → false ≡ legal sixCodec m
+  illegal i e = fails tests i e ∙ legal-told
+
+  pub pairs-last : m .seq ≤ 99999999 → quoteTimed (m .code) (m .time) ≡ true → codeRight (m .code) ≡ true → m .total .0 ≤ 99999999 → pairsRight r m ≡ legal sixCodec m
+  pairs-last s t c q = sym (λ i. le-leb (m .seq) 99999999 s i && (t i && (c i && (le-leb (m .total .0) 99999999 q i && pairsRight r m)))) ∙ legal-told

@@ -36,11 +36,17 @@ is-zero q = go (eqb q 0) refl
     go false e = sym (ne-eqb 0 q (λ z. eqb-false q 0 e (sym z)))
 
 module _ (p : Pair) (used : Bool) where
-  pub used-right : used ≡ true → leb (p .price .0) 999999999 && leb (p .quantity .0) 99999999 ≡ pairRight used p
-  used-right u = rw u (ap₂ _&&_ (below 999999999 (p .price .0)) (below 99999999 (p .quantity .0)))
+  pub price-over : used ≡ true → 999999999 < p .price .0 → false ≡ pairRight used p
+  price-over u h = rw (u, le-ltb (p .price .0) (10 ^ 9) (omega arith))
 
-  pub unused-zero : used ≡ false → eqb (p .price .0) 0 && eqb (p .quantity .0) 0 ≡ pairRight used p
-  unused-zero u = rw u (ap₂ _&&_ (is-zero (p .price .0)) (is-zero (p .quantity .0)))
+  pub quantity-over : used ≡ true → p .price .0 ≤ 999999999 → leb (p .quantity .0) 99999999 ≡ pairRight used p
+  quantity-over u h = rw (u, lt-ltb (p .price .0) (10 ^ 9) (omega arith)) (below 99999999 (p .quantity .0))
+
+  pub price-used : used ≡ false → (p .price .0 ≡ 0 → ⊥) → false ≡ pairRight used p
+  price-used u h = rw (u, ne-eqb 0 (p .price .0) (λ e. h (sym e)))
+
+  pub quantity-unused : used ≡ false → p .price .0 ≡ 0 → eqb (p .quantity .0) 0 ≡ pairRight used p
+  quantity-unused u h = rw (u, eq-eqb 0 (p .price .0) (sym h)) (is-zero (p .quantity .0))
 
 -- ---- the test of a part
 unused-right : (ps : List Pair) → partRight 0 ps ≡ zeroPairs ps

@@ -8,7 +8,7 @@ ghost use Rattle.layout.specs.Cells.{fits, encode};
 ghost use Rattle.stock_frame.specs.Codec.{legal, frameOf};
 ghost use Rattle.stock_frame.specs.Writing.{writeAnswer, writtenOver};
 ghost use Rattle.stock_quotes.specs.Reveal.{revealed, sideRoom, pairCount};
-ghost use Rattle.stock_quotes.specs.Quotes.{pairCells, flat, usedPairs, sixCodec};
+ghost use Rattle.stock_quotes.specs.Quotes.{quoteTimed, pairCells, flat, usedPairs, sixCodec};
 ghost use Rattle.stock_quotes_write.specs.Steps.{pairRight, partRight, pairsRight, fixedBytes, Ready};
 use amounts::Pair;
 use amounts::Price;
@@ -17,11 +17,23 @@ use answers::Written;
 use stock_quotes::Quote;
 use stock_quotes::Reveal;
 
-// The largest number of a frame.
+// The largest numbers that a frame's number and a time can be.
 const MOST_SEQ: u32 = 99_999_999;
+
+const MOST_TIME: u64 = 999_999_999_999;
 
 // The bytes of a frame around its body.
 const AROUND: usize = 13;
+
+// A time is one that the code allows.
+fn time_right(code: &[u8], time: u64) -> bool
+    ensures { λ r. ⌜ r ≡ quoteTimed (now (code .entry)) time ⌝ }
+{
+    if MOST_TIME < time {
+        return false;
+    }
+    stock_quotes::timed(code, (time / 100000000) as u32, (time % 100000000) as u32)
+}
 
 // A used pair is within its digits, an unused one is zero.
 fn pair_right(p: Pair, used: bool) -> bool
@@ -30,9 +42,15 @@ fn pair_right(p: Pair, used: bool) -> bool
     let price = p.price.0;
     let quantity = p.quantity.0;
     if used {
-        return (price <= Price::MOST) & (quantity <= Quantity::MOST);
+        if Price::MOST < price {
+            return false;
+        }
+        return quantity <= Quantity::MOST;
     }
-    (price == 0) & (quantity == 0)
+    if price != 0 {
+        return false;
+    }
+    quantity == 0
 }
 
 // The pairs of one side, of which the first are used.
@@ -57,8 +75,16 @@ fn pairs_right(m: Quote, shown: Reveal) -> bool
     let trade = m.trade;
     let bids = m.bids;
     let asks = m.asks;
-    let sides = side_right(bids, shown.bids) & side_right(asks, shown.asks);
-    shown.levels_right() & (pair_right(trade, 0 < shown.trades) & sides)
+    if !shown.levels_right() {
+        return false;
+    }
+    if !pair_right(trade, 0 < shown.trades) {
+        return false;
+    }
+    if !side_right(bids, shown.bids) {
+        return false;
+    }
+    side_right(asks, shown.asks)
 }
 
 // The message breaks no field's rule or range.
@@ -66,10 +92,19 @@ fn is_legal(m: Quote) -> bool
     ensures { λ r. ⌜ r ≡ legal sixCodec m ⌝ }
 {
     let code = m.code;
-    let timed = stock_quotes::timed(&code, m.time);
-    let coded = codes_times::code_right(&code);
-    let paired = pairs_right(m, Reveal::from_byte(m.reveal));
-    (m.seq <= MOST_SEQ) & (timed & (coded & ((m.total.0 <= Quantity::MOST) & paired)))
+    if MOST_SEQ < m.seq {
+        return false;
+    }
+    if !time_right(&code, m.time) {
+        return false;
+    }
+    if !codes_times::code_right(&code) {
+        return false;
+    }
+    if Quantity::MOST < m.total.0 {
+        return false;
+    }
+    pairs_right(m, Reveal::from_byte(m.reveal))
 }
 
 // Puts the first pairs of a side into the buffer from a place on.

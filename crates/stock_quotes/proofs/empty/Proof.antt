@@ -1,4 +1,4 @@
--- `reading::empty` meets its contract.
+-- `empty` meets its contract.
 use borrow.Author.Needs.{needs}
 use Rattle.stock_quotes.proofs.empty.Statement.{statement}
 use Rattle.stock_quotes.proofs.empty.Tie as tie

@@ -1,4 +1,4 @@
--- `reading::refused` meets its contract.
+-- `refused` meets its contract.
 use borrow.Author.Needs.{needs}
 use Rattle.stock_quotes_read.proofs.refused.Statement.{statement}
 use Rattle.stock_quotes_read.proofs.refused.Tie as tie

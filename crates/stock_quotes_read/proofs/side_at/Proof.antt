@@ -1,4 +1,4 @@
--- `reading::side_at` meets its contract. The loop's invariant: the pairs read, the pairs left and the zeros are the whole side.
+-- `side_at` meets its contract. The loop's invariant: the pairs read, the pairs left and the zeros are the whole side.
 use Prim.Native.Nat.{_-_, _+_, _*_}
 use mathlib.Core.Path.{sym, _∙_}
 use borrow.Author.Needs.{needs}

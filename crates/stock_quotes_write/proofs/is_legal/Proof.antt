@@ -1,13 +1,15 @@
--- `is_legal` meets its contract: all tests together.
-use mathlib.Core.Path.{_≡_, ap, ap₂, _∙_}
-use mathlib.Core.Bool.{Bool, _&&_}
-use lib.Dec.{leb}
+-- `is_legal` meets its contract: one test after the other.
+use Prim.Native.Nat.{_≤_}
+use mathlib.Core.Path.{_≡_, sym, ap, _∙_}
+use mathlib.Core.Bool.{true}
 use lib.ListN.{length}
+use borrow.Author.Tests.{lt-leb, not-true, not-false}
+use Rattle.codes_times.specs.Times.{codeRight}
 use Rattle.stock_quotes.specs.declared.Reveal.{Reveal}
-use Rattle.stock_quotes.specs.Quotes.{ShapedQuote}
+use Rattle.stock_quotes.specs.Quotes.{quoteTimed, ShapedQuote}
 use Rattle.stock_quotes.proofs.PairLaws.{length-mapped}
 use Rattle.stock_quotes_write.specs.Steps.{pairsRight}
-use Rattle.stock_quotes_write.proofs.LegalLaws.{legal-told}
+use Rattle.stock_quotes_write.proofs.LegalLaws.{illegal, pairs-last}
 use borrow.Author.Needs.{needs}
 use Rattle.stock_quotes_write.proofs.is_legal.Statement.{statement}
 use Rattle.stock_quotes_write.proofs.is_legal.Tie as tie
@@ -19,11 +21,40 @@ shaped c =
     let a : length (c .args .m .asks) ≡ 5 = search (needs, length-mapped) in
     record { code-long = n; bids-long = b; asks-long = a }
 
-slice-aggregate-timed : tie.Need-slice-aggregate-timed
-slice-aggregate-timed c = search needs
+-- ---- where the number is tried
+abbrev start : tie.After-struct-known → tie.Start
+start k = k .before .before
 
-timed-requires : tie.Need-timed-requires
-timed-requires c κs = search needs
+-- ---- where the time is right
+abbrev numbered : tie.After-time-right → tie.Else1
+numbered k = k .before .before
+
+time-ok : (k : tie.Else2) → let m = start (numbered (k .before) .before) .args .m in
+    quoteTimed (m .code) (m .time) ≡ true
+time-ok k = sym (k .before .time-right .ensures) ∙ not-false _ (k .if2 .left)
+
+-- ---- where the code is right
+abbrev timed : tie.After-code-right → tie.Else2
+timed k = k .before .before
+
+code-ok : (k : tie.Else3) → codeRight (start (numbered (timed (k .before) .before) .before) .args .m .code) ≡ true
+code-ok k = sym (k .before .code-right .ensures) ∙ not-false _ (k .if3 .left)
+
+returns : tie.Need-returns
+returns c =
+    let s = start (c .before) in
+    illegal (s .args .m) (shaped s) 0 (lt-leb (s .args .m .seq) 99999999 (c .if1 .taken))
+
+slice-aggregate-time-right : tie.Need-slice-aggregate-time-right
+slice-aggregate-time-right c = search needs
+
+time-right-requires : tie.Need-time-right-requires
+time-right-requires c κs = search needs
+
+returns-2 : tie.Need-returns-2
+returns-2 c =
+    let s = start (numbered (c .before) .before) in
+    illegal (s .args .m) (shaped s) 1 (sym (c .before .time-right .ensures) ∙ not-true _ (c .if2 .taken))
 
 slice-aggregate-code-right : tie.Need-slice-aggregate-code-right
 slice-aggregate-code-right c = search needs
@@ -31,32 +62,46 @@ slice-aggregate-code-right c = search needs
 code-right-requires : tie.Need-code-right-requires
 code-right-requires c κs = search needs
 
+returns-3 : tie.Need-returns-3
+returns-3 c =
+    let s = start (numbered (timed (c .before) .before) .before) in
+    illegal (s .args .m) (shaped s) 2 (sym (c .before .code-right .ensures) ∙ not-true _ (c .if3 .taken))
+
+returns-4 : tie.Need-returns-4
+returns-4 c =
+    let s = start (numbered (timed (c .before .before .before) .before) .before) in
+    illegal (s .args .m) (shaped s) 3 (lt-leb (s .args .m .total .0) 99999999 (c .if4 .taken))
+
 from-byte-requires : tie.Need-from-byte-requires
 from-byte-requires c κs = search needs
 
 pairs-right-requires : tie.Need-pairs-right-requires
 pairs-right-requires c κs = search needs
 
-returns : tie.Need-returns
-returns c =
-    let p = c .before .before in
-    let code = p .before .before in
-    let time = code .before .before in
-    let s = time .before .before .before in
+returns-5 : tie.Need-returns-5
+returns-5 c =
+    let b = c .before in
+    let q = b .before in
+    let e = q .before .before in
+    let t = timed (e .before) in
+    let n = numbered (t .before) in
+    let s = start (n .before) in
     let m = s .args .m in
-    let pairs = p .pairs-right .ensures ∙ ap (λ (r : Reveal). pairsRight r m) (p .before .from-byte .ensures) in
-    ap (λ (t : Bool). leb (m .seq) 99999999 && t)
-    (ap₂ _&&_ (time .timed .ensures) (ap₂ _&&_ (code .code-right .ensures) (ap (λ (t : Bool). leb (m .total .0) 99999999 && t) pairs)))
-    ∙ legal-told m (shaped s)
+    c .pairs-right .ensures ∙ ap (λ (r : Reveal). pairsRight r m) (b .from-byte .ensures)
+    ∙ pairs-last m (shaped s) (n .if1 .left) (time-ok t) (code-ok e) (q .if4 .left)
 
 pub is-legal-spec : {M : Type 1} → statement M
 is-legal-spec =
     tie.close
     (tie.spec
-    slice-aggregate-timed
-    timed-requires
+    returns
+    slice-aggregate-time-right
+    time-right-requires
+    returns-2
     slice-aggregate-code-right
     code-right-requires
+    returns-3
+    returns-4
     from-byte-requires
     pairs-right-requires
-    returns)
+    returns-5)

@@ -1,4 +1,4 @@
--- `writing::put_fixed` meets its contract.
+-- `put_fixed` meets its contract.
 use mathlib.Core.Path.{_≡_}
 use lib.ListN.{length}
 use Rattle.stock_quotes.specs.Quotes.{ShapedQuote}

@@ -1,4 +1,4 @@
--- `writing::put_pairs` meets its contract. The loop's invariant: the first i pairs stand at their place.
+-- `put_pairs` meets its contract. The loop's invariant: the first i pairs stand at their place.
 use Prim.Native.Nat.{ℕ, _-_, _≤_}
 use mathlib.Core.Path.{_≡_, ap, _∙_}
 use borrow.Author.Needs.{needs}

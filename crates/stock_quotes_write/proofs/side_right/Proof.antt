@@ -1,4 +1,4 @@
--- `writing::side_right` meets its contract. The loop's invariant: the test of the pairs left is the test of all.
+-- `side_right` meets its contract. The loop's invariant: the test of the pairs left is the test of all.
 use Prim.Native.Nat.{_-_}
 use mathlib.Core.Path.{_≡_, sym, _∙_}
 use borrow.Author.Needs.{needs}
