@@ -11,6 +11,10 @@ use Rattle.stock_frame.specs.Format.{Format, bodyChecks, around}
 use Rattle.answers.specs.declared.Answer.{Answer}
 use Rattle.stock_frame.specs.Outline.{own, body, outlineOf}
 use Rattle.stock_frame.specs.declared.head.Outline.{Outline}
+use Rattle.stock_notices.specs.Notices.{five}
+use Rattle.stock_quotes.specs.Quotes.{six}
+use Rattle.stock_prices.specs.Prices.{twelve}
+use Rattle.stock_halts.specs.Halts.{nineteen}
 use Rattle.stock_reading.specs.declared.reading.Whole.{Whole}
 use Rattle.stock_reading.specs.declared.reading.Found.{Found}
 use Rattle.stock_reading.specs.declared.reading.Found.the-variants.{At, None}
@@ -26,6 +30,14 @@ afterOutline kind seq b =
     let format = kind / 100 % 100 in
     named (firstFail (kindChecks (kind / 10000) format (kind % 100) ++ bodyChecks (formatOf format) b))
     (record { format = format; seq = seq; length = around + length b })
+
+-- six digits that are no format's with its version
+abbrev pub noKind : ℕ → Type 0
+noKind kind = (kind ≡ kindOf six → ⊥) × (kind ≡ kindOf twelve → ⊥) × (kind ≡ kindOf nineteen → ⊥) × (kind ≡ kindOf five → ⊥)
+
+-- an answer to such a header, whatever the body of a frame of n bytes holds
+abbrev pub refusesKind : Answer → ℕ → ℕ → Type 0
+refusesKind a kind n = (seq : ℕ) (b : List ℕ) → n ≡ around + length b → a ≡ afterOutline kind seq b
 
 -- a frame's outline is whole at a place: its header, and where its body stands on the line
 pub record WholeAt (line : List ℕ) (at : ℕ) (w : Whole) : Type 0 where

@@ -3,7 +3,7 @@ ghost use mathlib.Core.Path.{_≡_};
 ghost use Prim.Native.Nat.{_+_};
 ghost use lib.ListN.{length, drop};
 ghost use Rattle.stock_reading.specs.Reading.{answerOf, noticeAt, quoteAt, pricesAt, haltAt};
-ghost use Rattle.stock_reading.specs.Steps.{afterOutline, foundSays, kindSays};
+ghost use Rattle.stock_reading.specs.Steps.{noKind, refusesKind, afterOutline, foundSays, kindSays};
 use answers::Answer;
 use stock_frame::head::Outline;
 use stock_frame::outline::outline;
@@ -60,45 +60,52 @@ fn find(line: &[u8], at: usize) -> Found
     }
 }
 
-// What the checks behind the outline answer, of a body and its frame's header: 7 where it names no format, 8 for another version.
+// A header that names no format with its version: 8 where the format is one of the list, else 7.
+fn refused(kind: u32, n: usize) -> Answer
+    requires { ⌜ noKind kind ⌝ }
+    ensures { λ r. ⌜ refusesKind r kind n ⌝ }
+{
+    let format = kind / 100;
+    if format == SIX / 100 {
+        return Answer::Refused(8, n);
+    }
+    if format == TWELVE / 100 {
+        return Answer::Refused(8, n);
+    }
+    if format == NINETEEN / 100 {
+        return Answer::Refused(8, n);
+    }
+    if format == FIVE / 100 {
+        return Answer::Refused(8, n);
+    }
+    Answer::Refused(7, n)
+}
+
+// What the checks behind the outline answer, of a body and its frame's header.
 fn answer_of(body: &[u8], kind: u32, seq: u32) -> Answer
     ensures { λ r. ⌜ r ≡ afterOutline kind seq (now (body .entry)) ⌝ }
 {
-    let n = 13 + body.len();
-    let format = kind / 100;
-    if format == SIX / 100 {
-        if kind != SIX {
-            return Answer::Refused(8, n);
-        }
+    if kind == SIX {
         let r = quote_in(body, seq);
         let a = r.answer;
         return a;
     }
-    if format == TWELVE / 100 {
-        if kind != TWELVE {
-            return Answer::Refused(8, n);
-        }
+    if kind == TWELVE {
         let r = prices_in(body, seq);
         let a = r.answer;
         return a;
     }
-    if format == NINETEEN / 100 {
-        if kind != NINETEEN {
-            return Answer::Refused(8, n);
-        }
+    if kind == NINETEEN {
         let r = halt_in(body, seq);
         let a = r.answer;
         return a;
     }
-    if format == FIVE / 100 {
-        if kind != FIVE {
-            return Answer::Refused(8, n);
-        }
+    if kind == FIVE {
         let r = notice_in(body, seq);
         let a = r.answer;
         return a;
     }
-    Answer::Refused(7, n)
+    refused(kind, 13 + body.len())
 }
 
 // The answer alone, with the format, the number and the length of an accepted frame.
