@@ -1,4 +1,4 @@
--- A format: what its check of the table says, the cells of its body, and the rules on what the cells hold.
+-- A format: its number, version and range of lengths, the cells of its body, and the rules on what the cells hold.
 use Prim.Native.Nat.{ℕ, _+_}
 use mathlib.Core.Bool.{Bool, _&&_}
 use mathlib.Core.List.{List, [], _∷_}
