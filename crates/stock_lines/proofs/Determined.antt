@@ -10,6 +10,9 @@ use Rattle.stock_lines.proofs.figures.figures.Reads as figures-reads
 use Rattle.stock_lines.proofs.figures.walked as walked
 use Rattle.stock_lines.proofs.figures.walked.Kinds as walked-kinds
 use Rattle.stock_lines.proofs.figures.walked.Reads as walked-reads
+use Rattle.stock_lines.proofs.frames.next_frame as next-frame
+use Rattle.stock_lines.proofs.frames.next_frame.Kinds as next-frame-kinds
+use Rattle.stock_lines.proofs.frames.next_frame.Reads as next-frame-reads
 use Rattle.stock_lines.proofs.moves.move_at as move-at
 use Rattle.stock_lines.proofs.moves.move_at.Kinds as move-at-kinds
 use Rattle.stock_lines.proofs.moves.move_at.Reads as move-at-reads
@@ -40,3 +43,9 @@ pub determined-next-rows : (κs : Lifetimes.Lfts 1) (a : World.ArgsD next-rows.s
     (s₁ s₂ : Clauses.AtExit (kinds.endedOf 1 next-rows-kinds.ps next-rows-kinds.r) κs) → next-rows-reads.Post κs a r₁ s₁ → next-rows-reads.Post κs a r₂ s₂
     → r₁ ≡ r₂
 determined-next-rows κs a r₁ r₂ s₁ s₂ p q = p ∙ sym q
+
+-- what `next_frame` answers
+pub determined-next-frame : (κs : Lifetimes.Lfts 1) (a : World.ArgsD next-frame.signature κs) (r₁ r₂ : World.ResD next-frame.signature κs)
+    (s₁ s₂ : Clauses.AtExit (kinds.endedOf 1 next-frame-kinds.ps next-frame-kinds.r) κs) → next-frame-reads.Post κs a r₁ s₁ → next-frame-reads.Post κs a r₂ s₂
+    → r₁ ≡ r₂
+determined-next-frame κs a r₁ r₂ s₁ s₂ p q = p ∙ sym q

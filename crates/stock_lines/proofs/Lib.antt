@@ -2,5 +2,6 @@
 pub mod LineLaws
 pub mod LineTheorems
 pub mod TurnLaws
+pub mod FrameLaws
 pub mod Determined
 pub mod DeterminedTally

@@ -1,5 +1,5 @@
 -- The stock exchange's line: its reading, with and without the messages, and what the calls say of a walk over it.
-use Prim.Native.Nat.{ℕ}
+use Prim.Native.Nat.{ℕ, _+_}
 use mathlib.Core.Bool.{Bool, cond}
 use mathlib.Core.List.{List, [], _∷_}
 use lib.ListN.{drop}
@@ -15,12 +15,17 @@ use Rattle.stock_prices.specs.Prices.{twelveCodec, noPrices}
 use Rattle.stock_prices.specs.declared.Prices.{Prices}
 use Rattle.stock_halts.specs.Halts.{nineteenCodec, noHalt}
 use Rattle.stock_halts.specs.declared.Halt.{Halt}
+use Rattle.stock_frame.specs.Outline.{outlineOf}
+use Rattle.stock_frame.specs.declared.head.Outline.{Outline}
+use Rattle.stock_frame.specs.declared.head.Outline.the-variants.{Whole, Not}
 use Rattle.stock_reading.specs.Reading.{answerOf, messageBy}
-use Rattle.walk.specs.Walk.{Reading, taken, stops, walkFrom}
+use Rattle.walk.specs.Walk.{Reading, Move, taken, stops, walkFrom}
 use Rattle.walk.specs.Answers.{answering}
 use Rattle.walk.specs.Told.{nextOf}
 use Rattle.walk.specs.declared.rows.Kept.{Kept}
 use Rattle.walk.specs.declared.rows.Next.{Next}
+use Rattle.stock_lines.specs.declared.frames.Ahead.{Ahead}
+use Rattle.stock_lines.specs.declared.frames.Ahead.the-variants.{Frame, Nothing}
 use Rattle.stock_lines.specs.declared.moves.Step.{Step}
 use Rattle.stock_lines.specs.declared.moves.Step.the-variants.{Moved, Stopped}
 
@@ -81,3 +86,17 @@ stepValues Stopped = []
 -- the next rows of a line from a place on, with what is kept from the pieces before
 abbrev pub nextRows : Bool → Kept → ℕ → List ℕ → Next
 nextRows closed kept at line = nextOf (walkFrom answers closed (kept .at) (drop at line)) kept at
+
+-- a frame whose outline is whole, or what is met further on
+abbrev pub onOutline : Outline → ℕ → Ahead → Ahead
+onOutline (Whole h) at further = Frame h at
+onOutline (Not a) at further = further
+
+-- the first such frame among some moves from a place on
+abbrev pub aheadOf : List ℕ → List (Move Answer) → ℕ → Ahead
+aheadOf line [] at = Nothing at
+aheadOf line (m ∷ ms) at = onOutline (outlineOf (drop at line)) at (aheadOf line ms (at + m .bytes))
+
+-- the next frame of a line from a place on whose outline is whole, by its header and place
+abbrev pub nextFrame : Bool → ℕ → List ℕ → Ahead
+nextFrame closed at line = aheadOf line (walkFrom answers closed at (drop at line)) at

@@ -18,7 +18,7 @@ struct Stretch {
 }
 
 // How many bytes stand before the next 27, or the end.
-fn noise(line: &[u8], at: usize) -> usize
+pub(crate) fn noise(line: &[u8], at: usize) -> usize
     ensures { λ r. ⌜ r ≡ noiseLength (drop at (now (line .entry))) ⌝ }
 {
     let mut i = at;

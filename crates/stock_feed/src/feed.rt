@@ -1,0 +1,81 @@
+// A line that is being read, and the text about it that waits to be written.
+ghost use Rattle.io.specs.Counts.{Counts};
+use libc::STDERR_FILENO;
+
+// Standard input could not be read.
+pub const READ: u8 = 1;
+
+// Standard output took no more.
+pub const WRITE: u8 = 2;
+
+// A text was put that the output buffer has no room for.
+pub const CUT: u8 = 3;
+
+// 16: the place would pass the largest number.
+pub const FULL: u8 = 16;
+
+pub struct Feed {
+    // the bytes in hand that are not done with: from a place of the input buffer up to an end
+    pub at: usize,
+    pub end: usize,
+    // the last piece was shorter than the room for it, so the line may pause here
+    pub is_short: bool,
+    // no more bytes will come
+    pub is_closed: bool,
+    // how many bytes of text wait in the output buffer
+    pub to: usize,
+    // what failed, or 0
+    pub failure: u8,
+}
+
+impl Feed {
+    // At a line's beginning.
+    pub fn fresh() -> Feed {
+        Feed {
+            at: 0,
+            end: 0,
+            is_short: false,
+            is_closed: false,
+            to: 0,
+            failure: 0,
+        }
+    }
+}
+
+// What failed, in words.
+fn say(failure: u8) {
+    if failure == READ {
+        io::write_all(STDERR_FILENO, b"cannot read standard input");
+        return;
+    }
+    if failure == WRITE {
+        io::write_all(STDERR_FILENO, b"cannot write standard output");
+        return;
+    }
+    if failure == FULL {
+        io::write_all(STDERR_FILENO, b"answer 16: the line is too long to count");
+        return;
+    }
+    io::write_all(STDERR_FILENO, b"a text has no room in the buffer");
+}
+
+// Says on standard error what failed in a program, if anything did.
+pub fn tell(program: &[u8], failure: u8) {
+    if failure == 0 {
+        return;
+    }
+    io::write_all(STDERR_FILENO, program);
+    io::write_all(STDERR_FILENO, b": ");
+    say(failure);
+    io::write_all(STDERR_FILENO, b"\n");
+}
+
+// A number of a buffer's bytes: never more than it has.
+pub(crate) fn within(n: usize, buf: &[u8]) -> usize
+    ensures { λ r. ⌜ Counts r (now (buf .entry)) ⌝ }
+{
+    if n < buf.len() {
+        return n;
+    }
+    buf.len()
+}
