@@ -1,23 +1,16 @@
 // The frames of format six as arrivals in a ledger.
 use answers::Answer;
-use answers::Frame;
 use ledger::Arrival;
-use ledger::Ledger;
-use ledger_arrivals::arrive;
-use walk::rows::Kept;
-use walk::rows::Row;
+use ledger_arrivals::arrive_lent;
+use stock_feed::frames::Framed;
+use stock_reading::reading::SIX;
 
-// What a line has come to.
-pub(crate) struct Hearing {
-    // what the walk keeps from the pieces before
-    pub(crate) kept: Kept,
-    pub(crate) ledger: Ledger,
-    // how many arrivals were refused with 21: no number that is counted
+// How many arrivals were refused, by their answers.
+pub(crate) struct Refusals {
+    // 21: no number that is counted
     pub(crate) unnumbered: u64,
-    // and with 22: there would be more runs than the ledger holds
+    // 22: there would be more runs than the ledger holds
     pub(crate) unheld: u64,
-    // what failed, or 0
-    pub(crate) failure: u8,
 }
 
 fn one_more(n: u64) -> u64 {
@@ -28,7 +21,7 @@ fn one_more(n: u64) -> u64 {
 }
 
 // With one refused arrival more. A ledger that arrivals left is never refused with 20.
-fn with_refusal(s: Hearing, answer: u8) -> Hearing {
+fn with_refusal(s: Refusals, answer: u8) -> Refusals {
     let mut s = s;
     if answer == 21 {
         s.unnumbered = one_more(s.unnumbered);
@@ -41,30 +34,38 @@ fn with_refusal(s: Hearing, answer: u8) -> Hearing {
     s
 }
 
-// With one accepted frame more. The day's last one of format six counts too.
-fn with_frame(s: Hearing, f: Frame) -> Hearing {
-    if f.format != 6 {
-        return s;
-    }
-    let before = s.ledger;
-    let arrived = arrive(before, f.seq);
-    let ledger = arrived.ledger;
-    let answer = arrived.answer;
-    let mut s = s;
-    s.ledger = ledger;
-    match answer {
+// With one number more that arrives.
+fn with_number(s: Refusals, ends: &mut [u32], n: u32) -> Refusals {
+    match arrive_lent(ends, n) {
         Arrival::New => s,
         Arrival::Repeat => s,
-        Arrival::Refused(n) => with_refusal(s, n),
+        Arrival::Refused(answer) => with_refusal(s, answer),
     }
 }
 
-// With one row more.
-pub(crate) fn with_row(s: Hearing, row: Row) -> Hearing {
-    let answer = row.answer;
+// With one frame of format six more, by its body. The day's last one counts too.
+fn with_body(s: Refusals, ends: &mut [u32], body: &[u8], seq: u32) -> Refusals {
+    let r = stock_quotes_read::read(body, seq);
+    let answer = r.answer;
     match answer {
-        Answer::Accepted(f) => with_frame(s, f),
+        Answer::Accepted(f) => with_number(s, ends, f.seq),
         Answer::NoFrame(_) => s,
         Answer::Refused(_, _) => s,
     }
+}
+
+// With one frame more of the bytes in hand.
+pub(crate) fn with_frame(s: Refusals, ends: &mut [u32], buf: &[u8], f: Framed) -> Refusals {
+    let head = f.head;
+    let start = f.start;
+    let end = f.end;
+    if head.kind != SIX {
+        return s;
+    }
+    if end <= buf.len() {
+        if start <= end {
+            return with_body(s, ends, &buf[start..end], head.seq);
+        }
+    }
+    s
 }

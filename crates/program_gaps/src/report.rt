@@ -1,5 +1,5 @@
-// The report as text: some 2,000 bytes, so that it fits the output buffer whole.
-use crate::arrivals::Hearing;
+// The report as text, a JSON object a line: some 4,000 bytes, so that it fits the output buffer whole.
+use crate::arrivals::Refusals;
 use ledger::Figure;
 use ledger::Ledger;
 use ledger::RunAt;
@@ -7,9 +7,8 @@ use ledger_figures::heard;
 use ledger_figures::highest;
 use ledger_figures::missing;
 use ledger_figures::run;
-use printing::put;
 use printing::put_all;
-use printing::put_field;
+use printing::put_number;
 
 // The most missing runs that a ledger holds.
 const RUNS: u32 = 64;
@@ -22,19 +21,26 @@ fn count(first: u32, last: u32) -> u64 {
     0
 }
 
-// The row of a run, if there is one.
+// A key with its marks, and a number.
+fn put_count(out: &mut [u8], at: usize, key: &[u8], n: u64) -> usize {
+    let at = put_all(out, at, key);
+    put_number(out, at, n)
+}
+
+// The object of a run, if there is one.
 fn put_run(out: &mut [u8], at: usize, r: RunAt) -> usize {
     match r {
         RunAt::Run(first, last) => {
-            let to = put_field(out, at, first as u64, b',');
-            let to = put_field(out, to, last as u64, b',');
-            put_field(out, to, count(first, last), b'\n')
+            let at = put_count(out, at, b"{\"first\":", first as u64);
+            let at = put_count(out, at, b",\"last\":", last as u64);
+            let at = put_count(out, at, b",\"count\":", count(first, last));
+            put_all(out, at, b"}\n")
         }
         RunAt::Refused(_) => at,
     }
 }
 
-// The rows of all runs, lowest first.
+// The objects of all runs, lowest first.
 fn put_runs(out: &mut [u8], at: usize, l: Ledger) -> usize {
     let mut to = at;
     let mut i = 0;
@@ -46,40 +52,39 @@ fn put_runs(out: &mut [u8], at: usize, l: Ledger) -> usize {
     to
 }
 
-// The row of an answer that refused arrivals, if it did.
+// The object of an answer that refused arrivals, if it did.
 fn put_refused(out: &mut [u8], at: usize, answer: u64, n: u64) -> usize {
     if n == 0 {
         return at;
     }
-    let to = put_all(out, at, b"refused,");
-    let to = put_field(out, to, answer, b',');
-    put_field(out, to, n, b'\n')
+    let at = put_count(out, at, b"{\"refused\":", answer);
+    let at = put_count(out, at, b",\"count\":", n);
+    put_all(out, at, b"}\n")
 }
 
-// A figure and the byte that ends it. A ledger that arrivals left has every figure.
-fn put_figure(out: &mut [u8], at: usize, f: Figure, end: u8) -> usize {
+// A key and a figure. A ledger that arrivals left has every figure.
+fn put_figure(out: &mut [u8], at: usize, key: &[u8], f: Figure) -> usize {
     match f {
-        Figure::Is(n) => put_field(out, at, n as u64, end),
-        Figure::Refused(_) => put(out, at, end),
+        Figure::Is(n) => put_count(out, at, key, n as u64),
+        Figure::Refused(_) => at,
     }
 }
 
-fn put_total(out: &mut [u8], at: usize, l: Ledger) -> usize {
+// The object of the figures.
+fn put_figures(out: &mut [u8], at: usize, l: Ledger) -> usize {
     let most = highest(l);
     let there = heard(l);
     let gone = missing(l);
-    let to = put_all(out, at, b"total,");
-    let to = put_figure(out, to, most, b',');
-    let to = put_figure(out, to, there, b',');
-    put_figure(out, to, gone, b'\n')
+    let at = put_figure(out, at, b"{\"highest\":", most);
+    let at = put_figure(out, at, b",\"heard\":", there);
+    let at = put_figure(out, at, b",\"missing\":", gone);
+    put_all(out, at, b"}\n")
 }
 
 // The whole report, and how many bytes it takes.
-pub(crate) fn put_report(out: &mut [u8], s: Hearing) -> usize {
-    let l = s.ledger;
-    let to = put_all(out, 0, b"first,last,count\n");
-    let to = put_runs(out, to, l);
-    let to = put_refused(out, to, 21, s.unnumbered);
-    let to = put_refused(out, to, 22, s.unheld);
-    put_total(out, to, l)
+pub(crate) fn put_report(out: &mut [u8], l: Ledger, s: Refusals) -> usize {
+    let at = put_runs(out, 0, l);
+    let at = put_refused(out, at, 21, s.unnumbered);
+    let at = put_refused(out, at, 22, s.unheld);
+    put_figures(out, at, l)
 }

@@ -1,29 +1,79 @@
 // Reads standard input as a closed line and prints its listing: a row for each frame, one for each run of skipped bytes, and
 // the total of accepted, refused and skipped bytes. Input of any length, in constant memory.
-mod output;
-mod pieces;
 mod rows;
 
-use libc::STDERR_FILENO;
+use rows::put_header;
+use rows::put_row;
+use rows::put_total;
+use stock_feed::feed::READ;
+use stock_feed::feed::tell;
+use stock_feed::output::written;
+use stock_feed::rows::RowPull;
+use stock_feed::rows::Rows;
+use stock_feed::rows::next_row;
+use walk::rows::Row;
+use walk::tally::Tally;
 
-// Says on standard error what failed. No total has been printed.
-fn fail(what: &[u8]) {
-    io::write_all(STDERR_FILENO, b"listing: ");
-    io::write_all(STDERR_FILENO, what);
-    io::write_all(STDERR_FILENO, b"\n");
+// What a listing has come to.
+struct Listing {
+    rows: Rows,
+    total: Tally,
+}
+
+// With nothing but the header in the output buffer.
+fn begun(out: &mut [u8]) -> Listing {
+    let to = put_header(out, 0);
+    let mut rows = Rows::fresh();
+    rows.feed.to = to;
+    let total = Tally::empty();
+    Listing { rows, total }
+}
+
+// With one row more.
+fn with_row(out: &mut [u8], total: Tally, rows: Rows, row: Row) -> Listing {
+    let answer = row.answer;
+    let total = total.counted(answer, row.bytes);
+    let to = put_row(out, rows.feed.to, row);
+    let mut rows = rows;
+    rows.feed.to = to;
+    Listing { rows, total }
+}
+
+// With the total, all written; what failed, or 0.
+fn ended(out: &mut [u8], total: Tally, rows: Rows) -> u8 {
+    let mut feed = rows.feed;
+    let to = put_total(out, feed.to, total);
+    feed.to = to;
+    let feed = written(out, feed);
+    feed.failure
+}
+
+// Puts the listing of a whole line, and answers what failed, or 0.
+fn put_line(buf: &mut [u8], out: &mut [u8]) -> u8 {
+    let mut l = begun(out);
+    let mut turns = u64::MAX;
+    while turns > 0 {
+        let total = l.total;
+        let rows = l.rows;
+        match next_row(buf, out, rows) {
+            RowPull::Row(later, row) => {
+                l = with_row(out, total, later, row);
+            }
+            RowPull::End(last) => {
+                return ended(out, total, last);
+            }
+            RowPull::Failed(last) => {
+                return last.feed.failure;
+            }
+        }
+        turns -= 1;
+    }
+    READ
 }
 
 fn main() {
     let mut buf = io::large_buffer();
     let mut out = io::large_buffer();
-    let failure = pieces::list(&mut buf, &mut out);
-    if failure == pieces::READ {
-        fail(b"cannot read standard input");
-    }
-    if failure == output::WRITE {
-        fail(b"cannot write standard output");
-    }
-    if failure == pieces::FULL {
-        fail(b"answer 16: the line is too long to count");
-    }
+    let failure = put_line(&mut buf, &mut out);
+    tell(b"listing", failure);
 }

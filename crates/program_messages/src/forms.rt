@@ -7,21 +7,10 @@ use printing::put_number;
 // All nines in the place of a time with a fraction.
 const NINES: u64 = 999_999_999_999;
 
-// A key that is not the first of its object.
-pub(crate) fn put_key(out: &mut [u8], at: usize, name: &[u8]) -> usize {
-    let at = put_all(out, at, b",\"");
-    let at = put_all(out, at, name);
-    put_all(out, at, b"\":")
-}
-
-// A key and a number.
-pub(crate) fn put_count(out: &mut [u8], at: usize, name: &[u8], n: u64) -> usize {
-    let at = put_key(out, at, name);
+// A key with its marks, and a number.
+pub(crate) fn put_count(out: &mut [u8], at: usize, key: &[u8], n: u64) -> usize {
+    let at = put_all(out, at, key);
     put_number(out, at, n)
-}
-
-pub(crate) fn put_null(out: &mut [u8], at: usize) -> usize {
-    put_all(out, at, b"null")
 }
 
 // The last two digits of a number.
@@ -48,10 +37,11 @@ pub(crate) fn put_clock(out: &mut [u8], at: usize, t: u64) -> usize {
     put(out, at, b'"')
 }
 
-// HHMMSS and six digits of fraction, or that there is no time.
-pub(crate) fn put_time(out: &mut [u8], at: usize, t: u64) -> usize {
+// HHMMSS and six digits of fraction; where there is no time, null and the words that say why.
+pub(crate) fn put_time(out: &mut [u8], at: usize, t: u64, why: &[u8]) -> usize {
+    let at = put_all(out, at, b",\"time\":");
     if t == NINES {
-        return put_null(out, at);
+        return put_all(out, at, why);
     }
     let at = put(out, at, b'"');
     let at = put_hours(out, at, t / 1_000_000);

@@ -3,39 +3,37 @@ use crate::forms::put_clock;
 use crate::forms::put_code;
 use crate::forms::put_count;
 use crate::forms::put_hex;
-use crate::forms::put_key;
-use crate::forms::put_null;
 use crate::forms::put_price;
 use crate::forms::put_time;
 use crate::forms::put_two;
 use amounts::Pair;
 use amounts::Price;
+use answers::Answer;
 use answers::Frame;
 use printing::put;
 use printing::put_all;
-use printing::put_number;
+use stock_feed::frames::Framed;
 use stock_halts::Event;
 use stock_halts::Halt;
+use stock_halts::HaltReading;
 use stock_halts::Resume;
 use stock_halts::Sending;
 use stock_notices::Notice;
+use stock_notices::NoticeReading;
 use stock_prices::Prices;
+use stock_prices::PricesReading;
 use stock_prices::Slot;
 use stock_quotes::Quote;
+use stock_quotes::QuoteReading;
 use stock_quotes::Reveal;
-use stock_reading::reading::read_halt;
-use stock_reading::reading::read_notice;
-use stock_reading::reading::read_prices;
-use stock_reading::reading::read_quote;
+use stock_reading::reading::FIVE;
+use stock_reading::reading::NINETEEN;
+use stock_reading::reading::SIX;
+use stock_reading::reading::TWELVE;
 
 fn put_coded(out: &mut [u8], at: usize, code: [u8; 6]) -> usize {
-    let at = put_key(out, at, b"code");
+    let at = put_all(out, at, b",\"code\":");
     put_code(out, at, code)
-}
-
-fn put_timed(out: &mut [u8], at: usize, time: u64) -> usize {
-    let at = put_key(out, at, b"time");
-    put_time(out, at, time)
 }
 
 // The first n bytes of a text.
@@ -43,12 +41,11 @@ fn put_text(out: &mut [u8], at: usize, text: &[u8], n: usize) -> usize {
     if n <= text.len() {
         return put_hex(out, at, &text[0..n]);
     }
-    put_null(out, at)
+    put_all(out, at, b"null")
 }
 
 fn put_category(out: &mut [u8], at: usize, category: u8) -> usize {
-    let at = put_key(out, at, b"category");
-    let at = put(out, at, b'"');
+    let at = put_all(out, at, b",\"category\":\"");
     let at = put_two(out, at, category as u64);
     put(out, at, b'"')
 }
@@ -56,7 +53,7 @@ fn put_category(out: &mut [u8], at: usize, category: u8) -> usize {
 fn put_notice(out: &mut [u8], at: usize, m: Notice) -> usize {
     let text = m.text;
     let at = put_category(out, at, m.category);
-    let at = put_key(out, at, b"text");
+    let at = put_all(out, at, b",\"text\":");
     put_text(out, at, &text, m.length)
 }
 
@@ -64,7 +61,7 @@ fn put_pair(out: &mut [u8], at: usize, p: Pair) -> usize {
     let price = p.price;
     let at = put_all(out, at, b"{\"price\":");
     let at = put_price(out, at, price);
-    let at = put_count(out, at, b"quantity", p.quantity.0 as u64);
+    let at = put_count(out, at, b",\"quantity\":", p.quantity.0 as u64);
     put(out, at, b'}')
 }
 
@@ -97,19 +94,18 @@ fn put_levels(out: &mut [u8], at: usize, side: [Pair; 5], n: usize) -> usize {
     to
 }
 
-fn put_side(out: &mut [u8], at: usize, name: &[u8], side: [Pair; 5], n: usize) -> usize {
-    let at = put_key(out, at, name);
-    let at = put(out, at, b'[');
+fn put_side(out: &mut [u8], at: usize, key: &[u8], side: [Pair; 5], n: usize) -> usize {
+    let at = put_all(out, at, key);
     let at = put_levels(out, at, side, n);
     put(out, at, b']')
 }
 
 fn put_trade(out: &mut [u8], at: usize, trade: Pair, is_sent: bool) -> usize {
-    let at = put_key(out, at, b"trade");
+    let at = put_all(out, at, b",\"trade\":");
     if is_sent {
         return put_pair(out, at, trade);
     }
-    put_null(out, at)
+    put_all(out, at, b"null")
 }
 
 // What the reveal byte lets stand.
@@ -119,28 +115,28 @@ fn put_pairs(out: &mut [u8], at: usize, q: Quote) -> usize {
     let asks = q.asks;
     let shown = Reveal::from_byte(q.reveal);
     let at = put_trade(out, at, trade, 0 < shown.trades);
-    let at = put_side(out, at, b"bids", bids, shown.bids);
-    put_side(out, at, b"asks", asks, shown.asks)
+    let at = put_side(out, at, b",\"bids\":[", bids, shown.bids);
+    put_side(out, at, b",\"asks\":[", asks, shown.asks)
 }
 
 // The three bytes of flags and the day's total.
 fn put_marks(out: &mut [u8], at: usize, q: Quote) -> usize {
-    let at = put_count(out, at, b"reveal", q.reveal as u64);
-    let at = put_count(out, at, b"limit", q.limit as u64);
-    let at = put_count(out, at, b"status", q.status as u64);
-    put_count(out, at, b"total", q.total.0 as u64)
+    let at = put_count(out, at, b",\"reveal\":", q.reveal as u64);
+    let at = put_count(out, at, b",\"limit\":", q.limit as u64);
+    let at = put_count(out, at, b",\"status\":", q.status as u64);
+    put_count(out, at, b",\"total\":", q.total.0 as u64)
 }
 
 fn put_quote(out: &mut [u8], at: usize, q: Quote) -> usize {
     let code = q.code;
     let at = put_coded(out, at, code);
-    let at = put_timed(out, at, q.time);
+    let at = put_time(out, at, q.time, b"null,\"last\":true");
     let at = put_marks(out, at, q);
     put_pairs(out, at, q)
 }
 
-fn put_amount(out: &mut [u8], at: usize, name: &[u8], p: Price) -> usize {
-    let at = put_key(out, at, name);
+fn put_amount(out: &mut [u8], at: usize, key: &[u8], p: Price) -> usize {
+    let at = put_all(out, at, key);
     put_price(out, at, p)
 }
 
@@ -150,10 +146,10 @@ fn put_four(out: &mut [u8], at: usize, s: Slot) -> usize {
     let highest = s.highest;
     let lowest = s.lowest;
     let last = s.last;
-    let at = put_amount(out, at, b"open", opening);
-    let at = put_amount(out, at, b"high", highest);
-    let at = put_amount(out, at, b"low", lowest);
-    put_amount(out, at, b"last", last)
+    let at = put_amount(out, at, b",\"open\":", opening);
+    let at = put_amount(out, at, b",\"high\":", highest);
+    let at = put_amount(out, at, b",\"low\":", lowest);
+    put_amount(out, at, b",\"last\":", last)
 }
 
 fn put_slot(out: &mut [u8], at: usize, s: Slot) -> usize {
@@ -161,8 +157,8 @@ fn put_slot(out: &mut [u8], at: usize, s: Slot) -> usize {
     let at = put_all(out, at, b"{\"code\":");
     let at = put_code(out, at, code);
     let at = put_four(out, at, s);
-    let at = put_count(out, at, b"total", s.total.0 as u64);
-    let at = put_timed(out, at, s.time);
+    let at = put_count(out, at, b",\"total\":", s.total.0 as u64);
+    let at = put_time(out, at, s.time, b"null,\"closing\":true");
     put(out, at, b'}')
 }
 
@@ -189,32 +185,28 @@ fn put_slots(out: &mut [u8], at: usize, slots: [Slot; 10], n: usize) -> usize {
 
 fn put_prices(out: &mut [u8], at: usize, p: Prices) -> usize {
     let slots = p.slots;
-    let at = put_count(out, at, b"count", p.count as u64);
-    let at = put_key(out, at, b"slots");
-    let at = put(out, at, b'[');
+    let at = put_count(out, at, b",\"count\":", p.count as u64);
+    let at = put_all(out, at, b",\"slots\":[");
     let at = put_slots(out, at, slots, p.count as usize);
     put(out, at, b']')
 }
 
 // When trading is resumed, or null while it is not.
 fn put_resume(out: &mut [u8], at: usize, r: Resume) -> usize {
-    let at = put_key(out, at, b"resume");
+    let at = put_all(out, at, b",\"resume\":");
     match r {
-        Resume::Open => put_null(out, at),
+        Resume::Open => put_all(out, at, b"null"),
         Resume::At(t) => put_clock(out, at, t as u64),
     }
 }
 
 fn put_event(out: &mut [u8], at: usize, e: Event) -> usize {
-    let at = put_key(out, at, b"event");
     match e {
         Event::RoundEnd(n) => {
-            let at = put_all(out, at, b"\"round-end\"");
-            put_count(out, at, b"records", n as u64)
+            put_count(out, at, b",\"event\":\"round-end\",\"records\":", n as u64)
         }
         Event::Halted(t, r) => {
-            let at = put_all(out, at, b"\"halt\"");
-            let at = put_key(out, at, b"halted");
+            let at = put_all(out, at, b",\"event\":\"halt\",\"halted\":");
             let at = put_clock(out, at, t as u64);
             put_resume(out, at, r)
         }
@@ -222,10 +214,9 @@ fn put_event(out: &mut [u8], at: usize, e: Event) -> usize {
 }
 
 fn put_state(out: &mut [u8], at: usize, s: Sending) -> usize {
-    let at = put_key(out, at, b"state");
     match s {
-        Sending::Cycle => put_all(out, at, b"\"C\""),
-        Sending::Instant => put_all(out, at, b"\"I\""),
+        Sending::Cycle => put_all(out, at, b",\"state\":\"C\""),
+        Sending::Instant => put_all(out, at, b",\"state\":\"I\""),
     }
 }
 
@@ -238,41 +229,100 @@ fn put_halt(out: &mut [u8], at: usize, h: Halt) -> usize {
     put_state(out, at, state)
 }
 
-// What the frame at a place of the bytes in hand says besides its format and number.
-fn put_message(out: &mut [u8], at: usize, piece: &[u8], from: usize, format: u8) -> usize {
-    if format == 5 {
-        let r = read_notice(piece, from);
-        let m = r.notice;
-        return put_notice(out, at, m);
-    }
-    if format == 6 {
-        let r = read_quote(piece, from);
-        let q = r.quote;
-        return put_quote(out, at, q);
-    }
-    if format == 12 {
-        let r = read_prices(piece, from);
-        let p = r.prices;
-        return put_prices(out, at, p);
-    }
-    let r = read_halt(piece, from);
-    let h = r.halt;
-    put_halt(out, at, h)
+// An object's beginning: where the frame stands on the whole line, its format and number.
+fn put_opening(out: &mut [u8], at: usize, place: u64, f: Frame) -> usize {
+    let at = put_count(out, at, b"{\"at\":", place);
+    let at = put_count(out, at, b",\"format\":", f.format as u64);
+    put_count(out, at, b",\"seq\":", f.seq as u64)
 }
 
-// The object of the accepted frame at a place of the bytes in hand, and the line's end; `place` is the one on the whole line.
-pub(crate) fn put_object(
-    out: &mut [u8],
-    at: usize,
-    piece: &[u8],
-    from: usize,
-    place: u64,
-    f: Frame,
-) -> usize {
-    let at = put_all(out, at, b"{\"at\":");
-    let at = put_number(out, at, place);
-    let at = put_count(out, at, b"format", f.format as u64);
-    let at = put_count(out, at, b"seq", f.seq as u64);
-    let at = put_message(out, at, piece, from, f.format);
-    put_all(out, at, b"}\n")
+// The object of a body that was read, if it is accepted; of the four kinds one each.
+fn put_notice_read(out: &mut [u8], at: usize, place: u64, r: NoticeReading) -> usize {
+    let answer = r.answer;
+    match answer {
+        Answer::Accepted(f) => {
+            let m = r.notice;
+            let at = put_opening(out, at, place, f);
+            let at = put_notice(out, at, m);
+            put_all(out, at, b"}\n")
+        }
+        Answer::NoFrame(_) => at,
+        Answer::Refused(_, _) => at,
+    }
+}
+
+fn put_quote_read(out: &mut [u8], at: usize, place: u64, r: QuoteReading) -> usize {
+    let answer = r.answer;
+    match answer {
+        Answer::Accepted(f) => {
+            let q = r.quote;
+            let at = put_opening(out, at, place, f);
+            let at = put_quote(out, at, q);
+            put_all(out, at, b"}\n")
+        }
+        Answer::NoFrame(_) => at,
+        Answer::Refused(_, _) => at,
+    }
+}
+
+fn put_prices_read(out: &mut [u8], at: usize, place: u64, r: PricesReading) -> usize {
+    let answer = r.answer;
+    match answer {
+        Answer::Accepted(f) => {
+            let p = r.prices;
+            let at = put_opening(out, at, place, f);
+            let at = put_prices(out, at, p);
+            put_all(out, at, b"}\n")
+        }
+        Answer::NoFrame(_) => at,
+        Answer::Refused(_, _) => at,
+    }
+}
+
+fn put_halt_read(out: &mut [u8], at: usize, place: u64, r: HaltReading) -> usize {
+    let answer = r.answer;
+    match answer {
+        Answer::Accepted(f) => {
+            let h = r.halt;
+            let at = put_opening(out, at, place, f);
+            let at = put_halt(out, at, h);
+            put_all(out, at, b"}\n")
+        }
+        Answer::NoFrame(_) => at,
+        Answer::Refused(_, _) => at,
+    }
+}
+
+// The object of a frame with this header and body, if it is accepted. A header of no kind is refused with 7 or 8.
+fn put_body(out: &mut [u8], at: usize, body: &[u8], kind: u32, seq: u32, place: u64) -> usize {
+    if kind == SIX {
+        let r = stock_quotes_read::read(body, seq);
+        return put_quote_read(out, at, place, r);
+    }
+    if kind == TWELVE {
+        let r = stock_prices_read::read(body, seq);
+        return put_prices_read(out, at, place, r);
+    }
+    if kind == NINETEEN {
+        let r = stock_halts_read::read(body, seq);
+        return put_halt_read(out, at, place, r);
+    }
+    if kind == FIVE {
+        let r = stock_notices_read::read(body, seq);
+        return put_notice_read(out, at, place, r);
+    }
+    at
+}
+
+// The object of a frame of the bytes in hand, if it is accepted.
+pub(crate) fn put_framed(out: &mut [u8], at: usize, buf: &[u8], f: Framed) -> usize {
+    let head = f.head;
+    let start = f.start;
+    let end = f.end;
+    if end <= buf.len() {
+        if start <= end {
+            return put_body(out, at, &buf[start..end], head.kind, head.seq, f.place);
+        }
+    }
+    at
 }

@@ -1,5 +1,4 @@
 // A line that is being read, and the text about it that waits to be written.
-ghost use Rattle.io.specs.Counts.{Counts};
 use libc::STDERR_FILENO;
 
 // Standard input could not be read.
@@ -68,14 +67,4 @@ pub fn tell(program: &[u8], failure: u8) {
     io::write_all(STDERR_FILENO, b": ");
     say(failure);
     io::write_all(STDERR_FILENO, b"\n");
-}
-
-// A number of a buffer's bytes: never more than it has.
-pub(crate) fn within(n: usize, buf: &[u8]) -> usize
-    ensures { λ r. ⌜ Counts r (now (buf .entry)) ⌝ }
-{
-    if n < buf.len() {
-        return n;
-    }
-    buf.len()
 }

@@ -1,7 +1,6 @@
 // The frames of a line whose outlines are whole, one at a time, their bodies not yet read.
 use crate::feed::FULL;
 use crate::feed::Feed;
-use crate::feed::within;
 use crate::input::read_on;
 use crate::output::failed;
 use crate::output::relieved;
@@ -15,11 +14,16 @@ pub struct Frames {
     pub place: u64,
 }
 
-// A frame: its header, where it begins in the input buffer, and its place on the whole line.
+// A frame: its header, its place on the whole line, and where its bytes and its body stand in the input buffer.
 pub struct Framed {
     pub head: Head,
-    pub from: usize,
     pub place: u64,
+    // the frame's bytes
+    pub from: usize,
+    pub to: usize,
+    // its body
+    pub start: usize,
+    pub end: usize,
 }
 
 pub enum FramePull {
@@ -54,7 +58,7 @@ fn between(from: usize, to: usize) -> usize {
     0
 }
 
-// The place behind a frame, which stands before an end.
+// The place some bytes behind another, or an end before it.
 fn behind(from: usize, length: usize, end: usize) -> usize {
     if from <= end {
         if length <= end - from {
@@ -87,18 +91,30 @@ fn found(s: Frames, head: Head, from: usize) -> Hand {
     if u64::MAX - place < length {
         return Hand::Full(s);
     }
-    let at = behind(from, head.length, s.feed.end);
+    let to = behind(from, head.length, s.feed.end);
+    let start = behind(from, 10, to);
+    let end = between(3, to);
     let mut s = s;
     s.place = place + length;
-    s.feed.at = at;
-    let framed = Framed { head, from, place };
+    s.feed.at = to;
+    let framed = Framed {
+        head,
+        place,
+        from,
+        to,
+        start,
+        end,
+    };
     Hand::One(s, framed)
 }
 
 // The next frame of the bytes in hand.
 fn in_hand(buf: &[u8], s: Frames) -> Hand {
-    let end = within(s.feed.end, buf);
-    match ahead(&buf[..end], s.feed.at, s.feed.is_closed) {
+    let end = s.feed.end;
+    if buf.len() < end {
+        return Hand::Nothing(s);
+    }
+    match ahead(&buf[0..end], s.feed.at, s.feed.is_closed) {
         Ahead::Frame(head, from) => found(s, head, from),
         Ahead::Nothing(to) => skipped(s, to),
     }

@@ -2,7 +2,6 @@
 use crate::feed::CUT;
 use crate::feed::Feed;
 use crate::feed::WRITE;
-use crate::feed::within;
 use libc::STDOUT_FILENO;
 
 // Text is written when less than this is left of the buffer, so that a program may put this much between two pulls.
@@ -17,8 +16,7 @@ pub fn written(out: &[u8], f: Feed) -> Feed {
         f.failure = CUT;
         return f;
     }
-    let n = within(to, out);
-    if io::write_all(STDOUT_FILENO, &out[..n]) {
+    if io::write_all(STDOUT_FILENO, &out[0..to]) {
         return f;
     }
     f.failure = WRITE;

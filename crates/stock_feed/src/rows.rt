@@ -1,7 +1,6 @@
 // The rows of a line, one at a time.
 use crate::feed::FULL;
 use crate::feed::Feed;
-use crate::feed::within;
 use crate::input::read_on;
 use crate::output::failed;
 use crate::output::relieved;
@@ -54,8 +53,11 @@ enum Hand {
 fn in_hand(buf: &[u8], s: Rows) -> Hand {
     let mut s = s;
     let kept = s.kept;
-    let end = within(s.feed.end, buf);
-    match next_rows(&buf[..end], s.feed.at, kept, s.feed.is_closed) {
+    let end = s.feed.end;
+    if buf.len() < end {
+        return Hand::Nothing(s);
+    }
+    match next_rows(&buf[0..end], s.feed.at, kept, s.feed.is_closed) {
         Next::OneRow(row, kept, at) => {
             s.kept = kept;
             s.feed.at = at;

@@ -17,13 +17,13 @@ use stock_quotes::QuoteReading;
 use stock_quotes_read::read as quote_in;
 
 // Business 01 with a format and its version, as six digits.
-const FIVE: u32 = 10501;
+pub const FIVE: u32 = 10501;
 
-const SIX: u32 = 10604;
+pub const SIX: u32 = 10604;
 
-const TWELVE: u32 = 11203;
+pub const TWELVE: u32 = 11203;
 
-const NINETEEN: u32 = 11901;
+pub const NINETEEN: u32 = 11901;
 
 // A whole outline: where the body stands on the line, and what the header says.
 struct Whole {
