@@ -1,4 +1,5 @@
-//! The gaps of a closed line: the ledger over its accepted frames of format six, each of which is an arrival.
+//! The gaps of a closed line: the ledger over its accepted frames of format six, each of which is an arrival. What it tells
+//! is a JSON object a line, without blanks.
 
 use std::io::{self, Read, Write};
 
@@ -20,15 +21,16 @@ pub fn tell<R: Read, W: Write>(input: R, mut output: W) -> io::Result<()> {
         }
         Ok(())
     })?;
-    writeln!(output, "first,last,count")?;
     for run in &ledger.runs[..ledger.count] {
-        writeln!(output, "{},{},{}", run.first, run.last, run.last - run.first + 1)?;
+        let count = run.last - run.first + 1;
+        writeln!(output, "{{\"first\":{},\"last\":{},\"count\":{count}}}", run.first, run.last)?;
     }
     for (refusal, times) in refusals.iter().zip(times) {
         if times > 0 {
-            writeln!(output, "refused,{},{times}", refusal.number())?;
+            writeln!(output, "{{\"refused\":{},\"count\":{times}}}", refusal.number())?;
         }
     }
-    writeln!(output, "total,{},{},{}", ledger.highest, ledger.heard, ledger.highest - ledger.heard)?;
+    let (highest, heard) = (ledger.highest, ledger.heard);
+    writeln!(output, "{{\"highest\":{highest},\"heard\":{heard},\"missing\":{}}}", highest - heard)?;
     output.flush()
 }

@@ -49,6 +49,9 @@ fn notice_keys(f: &mut fmt::Formatter, notice: &Notice) -> fmt::Result {
 
 fn quote_keys(f: &mut fmt::Formatter, quote: &Quote) -> fmt::Result {
     write!(f, "\"code\":{},\"time\":{},", Text(&quote.code), Long(quote.time))?;
+    if quote.ends_the_day() {
+        f.write_str("\"last\":true,")?;
+    }
     write!(f, "\"reveal\":{},\"limit\":{},\"status\":{},", quote.reveal, quote.limit, quote.status)?;
     write!(f, "\"total\":{},\"trade\":", quote.total.0)?;
     match quote.trade() {
@@ -74,7 +77,8 @@ fn slot_object(f: &mut fmt::Formatter, slot: &Slot) -> fmt::Result {
     write!(f, "{{\"code\":{},", Text(&slot.code))?;
     write!(f, "\"open\":{},\"high\":{},", Decimals(slot.opening), Decimals(slot.highest))?;
     write!(f, "\"low\":{},\"last\":{},", Decimals(slot.lowest), Decimals(slot.last))?;
-    write!(f, "\"total\":{},\"time\":{}}}", slot.total.0, Long(slot.time))
+    write!(f, "\"total\":{},\"time\":{}", slot.total.0, Long(slot.time))?;
+    f.write_str(if slot.is_closing() { ",\"closing\":true}" } else { "}" })
 }
 
 fn halt_keys(f: &mut fmt::Formatter, halt: &Halt) -> fmt::Result {
@@ -141,7 +145,7 @@ impl fmt::Display for Short {
     }
 }
 
-/// HHMMSSffffff as a string, or null for twelve nines.
+/// HHMMSSffffff as a string, or null for twelve nines; a key of its own behind it says what those mean.
 struct Long(u64);
 
 impl fmt::Display for Long {

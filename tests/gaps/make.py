@@ -1,5 +1,6 @@
 #!/usr/bin/env python3
-"""Makes the stored input of the program gaps, a noisy closed line, and its output, the numbers of format six that are missing.
+"""Makes the stored input of the program gaps, a noisy closed line, and its output, the numbers of format six that are missing,
+as JSON.
 
 The line is put together from cases, one function each, in the order in which they stand in the file. A case gives parts: some
 bytes, and what is to become of the number in them: "new", "repeat", 21, 22, or None where no frame of format six is accepted.
@@ -12,6 +13,7 @@ make.py --check   compares instead, and exits 1 on a difference
 
 import collections
 import itertools
+import json
 import pathlib
 import sys
 
@@ -43,12 +45,12 @@ def arrive(numbers, n):
 
 
 def report(numbers, answers):
+    """The objects: the missing runs, the answers that refused arrivals, the figures; as the standard library's JSON."""
     highest = max(numbers, default=0)
-    lines = ["first,last,count"]
-    lines += [f"{first},{last},{last - first + 1}" for first, last in missing_runs(numbers)]
-    lines += [f"refused,{answer},{answers[answer]}" for answer in (21, 22) if answers[answer]]
-    lines += [f"total,{highest},{len(numbers)},{highest - len(numbers)}"]
-    return "".join(line + "\n" for line in lines).encode()
+    told = [dict(first=first, last=last, count=last - first + 1) for first, last in missing_runs(numbers)]
+    told += [dict(refused=answer, count=answers[answer]) for answer in (21, 22) if answers[answer]]
+    told += [dict(highest=highest, heard=len(numbers), missing=highest - len(numbers))]
+    return "".join(json.dumps(one, separators=(",", ":")) + "\n" for one in told).encode()
 
 
 # ---------------------------------------------------------------------------------------------------------------------

@@ -49,6 +49,11 @@ def twelve_digits(shown):
     return NINES if shown is None else shown.replace(":", "").replace(".", "")
 
 
+def timed(shown, nines):
+    """The time of a quote or slot, and what its nines mean where it has no other."""
+    return {"time": None, nines: True} if shown is None else {"time": shown}
+
+
 def pair(shown, quantity):
     return dict(price=shown, quantity=quantity)
 
@@ -64,19 +69,22 @@ def quote(trade=None, bids=(), asks=(), code="2330  ", time="09:04:15.061278", l
     pairs = ([trade] if trade else []) + [*bids, *asks]
     body = code.encode() + packed(twelve_digits(time)) + bytes([reveal, limit, status]) + packed(f"{total:08}")
     body += b"".join(packed(ten_digits(p["price"]) + f"{p['quantity']:08}") for p in pairs)
-    fields = dict(code=code, time=time, reveal=reveal, limit=limit, status=status, total=total, trade=trade, bids=list(bids),
-                  asks=list(asks))
+    fields = dict(code=code, **timed(time, "last"), reveal=reveal, limit=limit, status=status, total=total, trade=trade,
+                  bids=list(bids), asks=list(asks))
     return numbered("06", body, fields, seq)
 
 
+FOUR = "open", "high", "low", "last"
+
+
 def slot(code="1101  ", four=("12.5000", "12.8000", "12.4000", "12.5000"), total=8, time="09:10:03.554189"):
-    return dict(code=code, **dict(zip(("open", "high", "low", "last"), four)), total=total, time=time)
+    return dict(code=code, **dict(zip(FOUR, four)), total=total, **timed(time, "closing"))
 
 
 def prices(*slots, seq=None):
     body = packed(f"{len(slots):02}")
     for s in slots:
-        body += s["code"].encode() + packed("".join(ten_digits(s[key]) for key in ("open", "high", "low", "last")))
+        body += s["code"].encode() + packed("".join(ten_digits(s[key]) for key in FOUR))
         body += packed(f"{s['total']:08}" + twelve_digits(s["time"]))
     body += (b" " * 6 + bytes(30)) * (10 - len(slots))
     return numbered("12", body, dict(count=len(slots), slots=list(slots)), seq)
@@ -146,7 +154,8 @@ def price_tables():
     yield prices(slot("000000", zeros, 0, "00:00:00.000000"))
     yield prices(*[slot(f"{k:06}", time=None) for k in range(1, 10)], slot("000000", zeros, 0, None))
     yield prices(slot("      ", zeros, 0, "00:00:00.000000"), slot("      ", zeros, 0, "00:00:00.000000"))
-    yield prices(*[slot('"\\"\\"\\', ("99999.9999",) * 4, 99999999, "23:59:59.999999")] * 10, seq=99999999)
+    for time in ("23:59:59.999999", None):
+        yield prices(*[slot('"\\"\\"\\', ("99999.9999",) * 4, 99999999, time)] * 10, seq=99999999)
 
 
 def halts():
@@ -212,8 +221,12 @@ def clock(n):
     return f"{n // 10000:02}:{n // 100 % 100:02}:{n % 100:02}"
 
 
-def time_of(n):
-    return None if n == 999999999999 else f"{clock(n // 10 ** 6)}.{n % 10 ** 6:06}"
+def time_keys(n, nines):
+    """The key time, and behind twelve nines the key that says what they mean."""
+    keys = dict(time=f"{clock(n // 10 ** 6)}.{n % 10 ** 6:06}")
+    if n == 999999999999:
+        keys.update({"time": None, nines: True})
+    return keys
 
 
 def price_of(n):
@@ -224,17 +237,20 @@ def pairs_of(listed):
     return [pair(price_of(p), quantity) for p, quantity in listed]
 
 
+def slot_of(code, four, total, time):
+    return dict(code=code.decode("ascii"), **dict(zip(FOUR, map(price_of, four))), total=total, **time_keys(time, "closing"))
+
+
 def object_of(at, m):
     told = dict(at=at, format=m["format"], seq=m["seq"])
     if m["format"] == 5:
         told.update(category=f"{m['category']:02}", text=m["text"].hex())
     if m["format"] == 6:
-        told.update(code=m["code"].decode("ascii"), time=time_of(m["time"]), reveal=m["reveal"], limit=m["limit"],
+        told.update(code=m["code"].decode("ascii"), **time_keys(m["time"], "last"), reveal=m["reveal"], limit=m["limit"],
                     status=m["status"], total=m["total"], trade=(pairs_of(m["trade"]) + [None])[0], bids=pairs_of(m["bids"]),
                     asks=pairs_of(m["asks"]))
     if m["format"] == 12:
-        slots = [slot(code.decode("ascii"), map(price_of, four), total, time_of(time)) for code, four, total, time in m["slots"]]
-        told.update(count=m["count"], slots=slots[:m["count"]])
+        told.update(count=m["count"], slots=[slot_of(*fields) for fields in m["slots"][:m["count"]]])
     if m["format"] == 19:
         told.update(code=m["code"].decode("ascii"))
         if m["round_end"] is not None:
@@ -259,7 +275,9 @@ def main():
     for shown, told in itertools.zip_longest(lines, meant):
         assert len(shown) < SPARE
         again = json.loads(shown)
-        assert again == told and list(again) == list(told), shown
+        assert again == told and json.dumps(again) == json.dumps(told), shown
+    for meaning in ('"time":null,"last":true,"reveal":', '"time":null,"closing":true}'):
+        assert text.count(meaning) > 1, f"no object has {meaning}"
     assert {answer for _, answer, _, _ in moves} == set(range(14)), "every answer has to occur"
     assert min(len(line), len(text)) > 65536
 

@@ -69,7 +69,7 @@ fn a_difference() {
         ("listing", "sed 's/^total,.*/total,1,2,3/'", "total,1,2,3", "total,"),
         ("listing", "sed '$d'", "no such row", "total,"),
         ("messages", "sed '1s/\"seq\":/\"seq\":1/'", "{\"at\":", "{\"at\":"),
-        ("gaps", "sed 's/^first,/first /'", "first last,count", "first,last,count"),
+        ("gaps", "sed 's/\"heard\":/\"heard\":1/'", "\"heard\":1", "{\"highest\":"),
         ("numbers", "sed 's/ new$/ repeat/'", " repeat", " new"),
     ] {
         let (status, text) = compare(program, behind, "300");

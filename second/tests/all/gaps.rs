@@ -16,37 +16,55 @@ fn line(numbers: &[u32]) -> Vec<u8> {
 
 #[test]
 fn no_arrivals() {
-    assert_eq!(told(&[]), "first,last,count\ntotal,0,0,0\n");
+    let nothing = "{\"highest\":0,\"heard\":0,\"missing\":0}\n";
+    assert_eq!(told(&[]), nothing);
     // Frames of other formats, refused frames and noise are none.
     let mut refused = quote(0x00, 0);
     refused[15] = 0x0A;
     let others = [hex(NOTICE), hex(HALT), frame(SIX, &refused), frame(SIX, &quote(0x60, 6)), hex("1B 00")].concat();
-    assert_eq!(told(&others), "first,last,count\ntotal,0,0,0\n");
+    assert_eq!(told(&others), nothing);
 }
 
 #[test]
 fn the_papers_arrivals() {
-    assert_eq!(told(&line(&[5, 2, 5])), "first,last,count\n1,1,1\n3,4,2\ntotal,5,2,3\n");
+    let text = r#"{"first":1,"last":1,"count":1}
+{"first":3,"last":4,"count":2}
+{"highest":5,"heard":2,"missing":3}
+"#;
+    assert_eq!(told(&line(&[5, 2, 5])), text);
     let between = [line(&[1]), hex("41"), hex(NOTICE), line(&[2]), hex("1B"), line(&[3])].concat();
-    assert_eq!(told(&between), "first,last,count\ntotal,3,3,0\n");
+    assert_eq!(told(&between), "{\"highest\":3,\"heard\":3,\"missing\":0}\n");
 }
 
 #[test]
 fn the_days_last_frame_arrives() {
     let last = frame("01 06 04 00000003", &body("000000", &format!("{NINES} 00 00 00 00000000")));
-    assert_eq!(told(&[line(&[1]), last].concat()), "first,last,count\n2,2,1\ntotal,3,2,1\n");
+    let text = r#"{"first":2,"last":2,"count":1}
+{"highest":3,"heard":2,"missing":1}
+"#;
+    assert_eq!(told(&[line(&[1]), last].concat()), text);
 }
 
 #[test]
 fn refusals() {
-    assert_eq!(told(&line(&[0])), "first,last,count\nrefused,21,1\ntotal,0,0,0\n");
-    assert_eq!(told(&line(&[99_999_999])), "first,last,count\n1,99999998,99999998\ntotal,99999999,1,99999998\n");
+    let text = r#"{"refused":21,"count":1}
+{"highest":0,"heard":0,"missing":0}
+"#;
+    assert_eq!(told(&line(&[0])), text);
+    let text = r#"{"first":1,"last":99999998,"count":99999998}
+{"highest":99999999,"heard":1,"missing":99999998}
+"#;
+    assert_eq!(told(&line(&[99_999_999])), text);
     // 64 runs, 1-1 to 127-127; then 130 and 132 are refused, 129 and 1 are new, 131 opens 130-130, and 0 is refused.
     let mut numbers: Vec<u32> = (2..=128).step_by(2).collect();
     numbers.extend([130, 132, 129, 1, 131, 0]);
-    let mut text = String::from("first,last,count\n");
+    let mut text = String::new();
     for missing in (3..=127).step_by(2).chain([130]) {
-        text += &format!("{missing},{missing},1\n");
+        text += &format!("{{\"first\":{missing},\"last\":{missing},\"count\":1}}\n");
     }
-    assert_eq!(told(&line(&numbers)), text + "refused,21,1\nrefused,22,2\ntotal,131,67,64\n");
+    text += r#"{"refused":21,"count":1}
+{"refused":22,"count":2}
+{"highest":131,"heard":67,"missing":64}
+"#;
+    assert_eq!(told(&line(&numbers)), text);
 }

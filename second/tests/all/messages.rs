@@ -54,7 +54,7 @@ fn quotes() {
     );
     assert_eq!(told(&six("\"\\~/a ", "000000000000", "10", "00000000 0000000000 00000005")), text);
     let text = concat!(
-        r#"{"at":0,"format":6,"seq":7,"code":"000000","time":null,"reveal":1,"limit":1,"status":16,"#,
+        r#"{"at":0,"format":6,"seq":7,"code":"000000","time":null,"last":true,"reveal":1,"limit":1,"status":16,"#,
         r#""total":99999999,"trade":null,"bids":[],"asks":[]}"#,
         "\n"
     );
@@ -69,7 +69,8 @@ fn tables() {
         r#"{"at":0,"format":12,"seq":12,"count":3,"slots":["#,
         r#"{"code":"1101  ","open":"12.5000","high":"12.8000","low":"12.4000","last":"12.5000","total":8,"#,
         r#""time":"09:10:03.554189"},"#,
-        r#"{"code":"9958\\\"","open":"12.5000","high":"12.8000","low":"12.4000","last":"12.5000","total":8,"time":null},"#,
+        r#"{"code":"9958\\\"","open":"12.5000","high":"12.8000","low":"12.4000","last":"12.5000","total":8,"time":null,"#,
+        r#""closing":true},"#,
         r#"{"code":"000000","open":"0.0000","high":"0.0000","low":"0.0000","last":"0.0000","total":0,"#,
         r#""time":"00:00:00.000000"}]}"#,
         "\n"
