@@ -1,6 +1,7 @@
 #!/usr/bin/env python3
-"""Makes samples/capture, a few seconds of a line for the first look: a notice, quotes, a halt that is lifted, opening prices,
-noise between them, a quote whose check byte was damaged on the way, and numbers that never arrived.
+"""Makes samples/capture, a few seconds of a line for the first look: notices, one of them in Big5, quotes, a halt that is lifted,
+opening prices, noise between them, a quote whose check byte was damaged on the way, and numbers that never arrived. One code
+begins with a zero, which a reader that takes codes for numbers loses.
 
 make.py           writes the file
 make.py --check   compares instead, and exits 1 on a difference
@@ -14,6 +15,7 @@ from reference import stored
 from reference.frames import frame, halt, notice, packed, quote, slot, table
 
 SAMPLE = stored.ROOT / "samples" / "capture"
+BIG5 = "今日上午九時開始交易"  # trading has begun at nine this morning
 
 
 def book(last, trade, levels):
@@ -34,6 +36,8 @@ def the_line():
     yield frame("06", quote(0x00, code=b"2330  ", time="090004271828"), "00000006")
     yield frame("19", halt(code=b"2317  ", halted="090002", resumed="091500", state=b"I"), "00000002")
     yield frame("06", quote(0x80, book(430000, True, (0, 0)), code=b"1101  ", time="090005314159"), "00000007")
+    yield frame("05", notice("00", BIG5.encode("big5")), "00000002")
+    yield frame("06", quote(0x92, book(1325000, True, (1, 1)), code=b"0050  ", time="090006000000"), "00000008")
 
 
 def main():
