@@ -261,13 +261,22 @@ def object_of(at, m):
     return told
 
 
+def objects(moves):
+    return [object_of(at, message) for at, answer, _, message in moves if answer == 0]
+
+
+def printed(found):
+    """The objects as the program prints them."""
+    return "".join(json.dumps(told, separators=(",", ":")) + "\n" for told in found)
+
+
 def main():
     line, meant = the_line()
     moves = list(reader.walk(line))
-    found = [object_of(at, message) for at, answer, _, message in moves if answer == 0]
+    found = objects(moves)
     for one, other in itertools.zip_longest(meant, found):
         assert one == other, f"made for {one}, and the reading says {other}"
-    text = "".join(json.dumps(told, separators=(",", ":")) + "\n" for told in found)
+    text = printed(found)
 
     # What is written is JSON, a whole object a line, with the keys in their order.
     lines = text.split("\n")
