@@ -69,10 +69,11 @@ PIECES = list(pieces())
 LINE = b"".join(PIECES)
 
 
-def shorten(text, wanted):
+def parted(text, wanted):
     """Where two outputs part."""
     same = len(os.path.commonprefix([text, wanted]))
-    return f"{len(text)} bytes instead of {len(wanted)}, the same up to {same}: {text[same:same + 60]!r}, not {wanted[same:same + 60]!r}"
+    behind = slice(same, same + 60)
+    return f"{len(text)} bytes instead of {len(wanted)}, the same up to {same}: {text[behind]!r}, not {wanted[behind]!r}"
 
 
 # ---------------------------------------------------------------------------------------------------------------------
@@ -89,12 +90,12 @@ def stays_open(name):
                 return faults.differs(f"{name} does not take the first {len(line)} bytes: {bytes(program.err)}")
             wanted = known(known_moves(line))
             if not program.shows(lambda out: len(out) >= len(wanted)) or program.out != wanted:
-                return faults.differs(f"{name}, of {len(line)} bytes of an open line: {shorten(bytes(program.out), wanted)}")
+                return faults.differs(f"{name}, of {len(line)} bytes of an open line: {parted(bytes(program.out), wanted)}")
         program.process.stdin.close()
         if program.ends() != 0:
             faults.differs(f"{name} does not end with its line, or with status {program.process.returncode}: {bytes(program.err)}")
         elif program.out != whole(reader.walk(LINE)):
-            faults.differs(f"{name}, of the whole line: {shorten(bytes(program.out), whole(reader.walk(LINE)))}")
+            faults.differs(f"{name}, of the whole line: {parted(bytes(program.out), whole(reader.walk(LINE)))}")
 
 
 def hung_up(data):
@@ -128,7 +129,7 @@ def read_fails(name, given, data):
         if b"cannot read standard input" not in program.err:
             faults.differs(f"{told}: standard error does not say so: {bytes(program.err)}")
         if program.out != wanted:
-            faults.differs(f"{told}: {shorten(bytes(program.out), wanted)}")
+            faults.differs(f"{told}: {parted(bytes(program.out), wanted)}")
 
 
 def main():
