@@ -65,10 +65,8 @@ class Started:
         return self
 
     def __exit__(self, *_):
-        try:
+        if self.process.poll() is None:
             os.killpg(self.process.pid, signal.SIGKILL)
-        except ProcessLookupError:
-            pass  # all of it has ended
         self.process.wait()
 
 
