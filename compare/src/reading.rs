@@ -6,7 +6,7 @@ use std::fmt;
 use second::reading::read_at;
 use second::seen::around;
 use second::Message;
-use trivsome::{raw, Halt, Notice, Outcome, Pair, Price, Prices, Quantity, Quote};
+use trivsome::{raw, Code, Halt, Notice, Pair, Price, Prices, Quantity, Quote};
 
 use crate::same::{self, differ, outcome, told};
 
@@ -54,7 +54,7 @@ impl Default for Lent {
             trade: pair,
             bids: [pair; 5],
             asks: [pair; 5],
-            code: [LENT; 6],
+            code: Code([LENT; 6]),
             reveal: LENT,
             limit: LENT,
             status: LENT,
@@ -70,7 +70,7 @@ impl Default for Lent {
         let prices = Prices {
             seq: LENT_NUMBER,
             count: LENT,
-            codes: [[LENT; 6]; 10],
+            codes: [Code([LENT; 6]); 10],
             amounts: [amounts; 10],
             times: [LENT_TIME; 10],
         };
@@ -88,16 +88,25 @@ impl Lent {
         same_message("the lent halt", &(self.code, self.event), &(other.code, other.event))
     }
 
-    /// Reads into all of them.
-    fn read(&mut self, line: &[u8], place: usize) -> [(&'static str, u64); 4] {
-        let number =
-            |outcome: Outcome| same::packed(outcome.number(), outcome.format(), outcome.length(), outcome.seq());
-        [
-            ("reading a notice", number(trivsome::read_notice_into(line, place, &mut self.notice))),
-            ("reading a quote", number(trivsome::read_quote_into(line, place, &mut self.quote))),
-            ("reading prices", number(trivsome::read_prices_into(line, place, &mut self.prices))),
-            ("reading a halt", raw::read_halt(line, place, &mut self.code, &mut self.event)),
-        ]
+    /// Reads into all of them, and compares what that gives.
+    fn read(&mut self, line: &[u8], place: usize, answer: &second::Answer) -> Result<(), String> {
+        let notice = trivsome::read_notice_into(line, place, &mut self.notice);
+        same_message("reading a notice", &notice, &same::reading(answer, Notice::FORMAT))?;
+        let quote = trivsome::read_quote_into(line, place, &mut self.quote);
+        same_message("reading a quote", &quote, &same::reading(answer, Quote::FORMAT))?;
+        let prices = trivsome::read_prices_into(line, place, &mut self.prices);
+        same_message("reading prices", &prices, &same::reading(answer, Prices::FORMAT))?;
+        let halt = raw::read_halt(line, place, &mut self.code, &mut self.event);
+        same_outcome("reading a halt", halt, outcome(answer))
+    }
+}
+
+/// Two outcomes are the same.
+fn same_outcome(what: &str, proved: u64, second: u64) -> Result<(), String> {
+    if proved == second {
+        Ok(())
+    } else {
+        Err(differ(what, &told(proved), &told(second)))
     }
 }
 
@@ -126,10 +135,7 @@ impl Readings {
                 let end = place + length;
                 let cut = |end: usize| {
                     let (proved, second) = (raw::read(&line[..end], place), outcome(&read_at(&line[..end], place)));
-                    if proved != second {
-                        return Err(within(format!("cut at {end}, {}", differ("read", &told(proved), &told(second)))));
-                    }
-                    Ok(())
+                    same_outcome("read", proved, second).map_err(|what| within(format!("cut at {end}, {what}")))
                 };
                 cut(end)?;
                 cut(end - 1)?;
@@ -142,27 +148,21 @@ impl Readings {
     }
 
     fn one(&mut self, line: &[u8], place: usize, answer: &second::Answer, fresh: &Lent) -> Result<(), String> {
-        let expected = outcome(answer);
-        let proved = raw::read(line, place);
-        if proved != expected {
-            return Err(differ("read", &told(proved), &told(expected)));
-        }
-        let outcomes = self.lent.read(line, place);
-        for (what, proved) in outcomes {
-            if proved != expected {
-                return Err(differ(what, &told(proved), &told(expected)));
-            }
-        }
+        same_outcome("read", raw::read(line, place), outcome(answer))?;
+        self.lent.read(line, place, answer)?;
+        let mut halt = Halt::default();
+        let told = trivsome::read_halt_into(line, place, &mut halt);
+        same_message("reading a halt by its names", &told, &same::reading(answer, Halt::FORMAT))?;
         let Some(message) = answer.message() else {
             return self.lent.is(fresh).map_err(|what| format!("refused with {}: {what}", answer.number()));
         };
-        self.messages(line, place, message, fresh)?;
+        self.messages(message, &halt, fresh)?;
         self.lent = fresh.clone();
         Ok(())
     }
 
     /// The message of an accepted frame; what was lent for the other kinds is as it was.
-    fn messages(&mut self, line: &[u8], place: usize, message: &Message, fresh: &Lent) -> Result<(), String> {
+    fn messages(&mut self, message: &Message, proved: &Halt, fresh: &Lent) -> Result<(), String> {
         let mut expected = fresh.clone();
         self.formats[match message {
             Message::Five(five) => {
@@ -179,10 +179,8 @@ impl Readings {
             }
             Message::Nineteen(nineteen) => {
                 let halt = same::halt(nineteen);
-                let mut proved = Halt::default();
-                trivsome::read_halt_into(line, place, &mut proved);
-                same_message("the halt", &proved, &halt)?;
-                expected.code = halt.code;
+                same_message("the halt", proved, &halt)?;
+                expected.code = halt.code.0;
                 expected.event = same::event(nineteen);
                 3
             }

@@ -12,6 +12,22 @@ pub fn outcome(answer: &second::Answer) -> u64 {
     packed(answer.number(), format, answer.length().unwrap_or(0), seq)
 }
 
+/// What a reading of one format gives.
+pub fn reading(answer: &second::Answer, format: u8) -> Result<trivsome::Frame, trivsome::NotRead> {
+    match *answer {
+        second::Answer::Accepted { length, ref message } => {
+            let frame = trivsome::Frame { format: message.format(), seq: message.number(), length };
+            if frame.format == format {
+                Ok(frame)
+            } else {
+                Err(trivsome::NotRead::OtherFormat(frame))
+            }
+        }
+        second::Answer::Refused { length, .. } => Err(trivsome::NotRead::Refused(answer.number(), length)),
+        second::Answer::NoFrame(_) => Err(trivsome::NotRead::NoFrame(answer.number())),
+    }
+}
+
 pub fn packed(answer: u8, format: u8, length: usize, seq: u32) -> u64 {
     u64::from(answer) | u64::from(format) << 8 | (length as u64) << 16 | u64::from(seq) << 32
 }
@@ -48,7 +64,7 @@ pub fn quote(quote: &six::Quote) -> trivsome::Quote {
         trade: first,
         bids: side(bids),
         asks: side(asks),
-        code: quote.code,
+        code: trivsome::Code(quote.code),
         reveal: quote.reveal,
         limit: quote.limit,
         status: quote.status,
@@ -59,7 +75,7 @@ pub fn prices(prices: &twelve::Prices) -> trivsome::Prices {
     trivsome::Prices {
         seq: prices.number,
         count: prices.count.min(255) as u8,
-        codes: prices.slots.map(|slot| slot.code),
+        codes: prices.slots.map(|slot| trivsome::Code(slot.code)),
         amounts: prices.slots.map(|slot| trivsome::Amounts {
             opening: trivsome::Price(slot.opening.0),
             highest: trivsome::Price(slot.highest.0),
@@ -85,7 +101,7 @@ pub fn halt(halt: &nineteen::Halt) -> trivsome::Halt {
         nineteen::State::Cycle => trivsome::Sending::Cycle,
         nineteen::State::AtOnce => trivsome::Sending::Instant,
     };
-    trivsome::Halt { seq: halt.number, code: halt.code, event, state }
+    trivsome::Halt { seq: halt.number, code: trivsome::Code(halt.code), event, state }
 }
 
 /// The four numbers of a halt's event and state. A resume at 999999, which they cannot tell from an open one, is another number

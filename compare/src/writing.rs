@@ -100,7 +100,7 @@ impl Writings {
             2 => [0, 123, any, state],
             _ => [0, 123, 0, random.pick(&[0, 66, 68, 72, 74, 67 + 256, 73 + 65_536, u32::MAX])],
         };
-        let code = if event[0] == 0 { *b"000123" } else { halt.code };
+        let code = if event[0] == 0 { *b"000123" } else { halt.code.0 };
         for room in [ROOM, random.below(26) as usize] {
             let mut buffer = [BEHIND; ROOM];
             let proved = raw::write_halt(halt.seq, &code, &event, &mut buffer[..room]);

@@ -6,7 +6,7 @@ use compare::same;
 use second::random::Random;
 use second::reading::read_at;
 use second::Message;
-use trivsome::{Halt, Notice, Outcome, Prices, Quote};
+use trivsome::{Answer, Frame, Halt, NotRead, Notice, Prices, Quote};
 
 use crate::kinds::{Kind, TYPICAL};
 use crate::timing::{both, Effort, Row};
@@ -69,16 +69,16 @@ fn sum(number: u8, length: usize) -> u64 {
 
 fn ours<'a, M: 'a>(
     kind: &'a Kind,
-    read: impl Fn(&[u8], usize, &mut M) -> Outcome + 'a,
+    read: impl Fn(&[u8], usize, &mut M) -> Result<Frame, NotRead> + 'a,
     mut message: M,
 ) -> impl FnMut() -> u64 + 'a {
     move || {
         let line = black_box(&kind.line[..]);
         let mut sums = 0;
         for &place in &kind.places {
-            let outcome = read(line, place, &mut message);
+            let answer = read(line, place, &mut message).map_or_else(NotRead::answer, Answer::Accepted);
             black_box(&mut message);
-            sums += sum(outcome.number(), outcome.length());
+            sums += sum(answer.number(), answer.length());
         }
         sums
     }
@@ -108,19 +108,23 @@ fn seconds(line: &[u8], places: &[usize]) -> u64 {
 /// Both give the same answer and the same message.
 fn agree(line: &[u8], place: usize) -> Result<(), String> {
     let answer = read_at(line, place);
-    let expected = same::outcome(&answer);
-    let told = |outcome: Outcome| same::packed(outcome.number(), outcome.format(), outcome.length(), outcome.seq());
+    let (proved, expected) = (trivsome::raw::read(line, place), same::outcome(&answer));
+    if proved != expected {
+        return Err(format!("{} against {}", same::told(proved), same::told(expected)));
+    }
     let (mut notice, mut quote, mut prices, mut halt) =
         (Notice::default(), Quote::default(), Prices::default(), Halt::default());
-    let outcomes = [
-        trivsome::read(line, place),
-        trivsome::read_notice_into(line, place, &mut notice),
-        trivsome::read_quote_into(line, place, &mut quote),
-        trivsome::read_prices_into(line, place, &mut prices),
-        trivsome::read_halt_into(line, place, &mut halt),
+    let readings = [
+        (Notice::FORMAT, trivsome::read_notice_into(line, place, &mut notice)),
+        (Quote::FORMAT, trivsome::read_quote_into(line, place, &mut quote)),
+        (Prices::FORMAT, trivsome::read_prices_into(line, place, &mut prices)),
+        (Halt::FORMAT, trivsome::read_halt_into(line, place, &mut halt)),
     ];
-    if let Some(outcome) = outcomes.into_iter().find(|outcome| told(*outcome) != expected) {
-        return Err(format!("{} against {}", same::told(told(outcome)), same::told(expected)));
+    for (format, told) in readings {
+        let expected = same::reading(&answer, format);
+        if told != expected {
+            return Err(format!("{told:?} against {expected:?}"));
+        }
     }
     let is_same = match answer.message() {
         None => true,

@@ -1,6 +1,6 @@
 //! Format nineteen: halts.
 
-use crate::outcome::{written, Answer, Frame, NotWritten, Outcome};
+use crate::outcome::{written, Frame, NotRead, NotWritten, Outcome};
 use crate::raw;
 use crate::units::{Code, SHORT_NINES};
 
@@ -13,6 +13,7 @@ pub enum Resume {
     At(u32),
 }
 
+/// What a frame of format nineteen tells of.
 #[derive(Clone, Copy, Debug, PartialEq, Eq, Hash)]
 pub enum Event {
     /// The end of a round of so many records, which the code says too.
@@ -21,6 +22,7 @@ pub enum Event {
     Halted(u32, Resume),
 }
 
+/// When a halt is sent.
 #[derive(Clone, Copy, Debug, PartialEq, Eq, Hash)]
 pub enum Sending {
     /// `C`, sent in the cycle.
@@ -32,9 +34,13 @@ pub enum Sending {
 /// A stock's halt, the whole market's (code `000000`), or a round's end.
 #[derive(Clone, Copy, Debug, PartialEq, Eq, Hash)]
 pub struct Halt {
+    /// The frame's number.
     pub seq: u32,
+    /// The stock; of a round's end, its records as six digits.
     pub code: Code,
+    /// A halt, or a round's end.
     pub event: Event,
+    /// In the cycle, or at once.
     pub state: Sending,
 }
 
@@ -42,17 +48,18 @@ impl Default for Halt {
     /// The empty halt: a round's end of 0 records in the cycle, with zeros for a code.
     #[inline]
     fn default() -> Halt {
-        Halt { seq: 0, code: [0; 6], event: Event::RoundEnd(0), state: Sending::Cycle }
+        Halt { seq: 0, code: Code::default(), event: Event::RoundEnd(0), state: Sending::Cycle }
     }
 }
 
 impl Halt {
+    /// The format's number.
     pub const FORMAT: u8 = 19;
 
     /// Whether the whole market is halted. A round's end with the code `000000` had no records, and is no such halt.
     #[inline]
     pub fn is_whole_market(&self) -> bool {
-        self.code == *b"000000" && matches!(self.event, Event::Halted(..))
+        self.code == Code(*b"000000") && matches!(self.event, Event::Halted(..))
     }
 
     /// The event and the state as the library's four numbers.
@@ -83,33 +90,26 @@ impl Halt {
     }
 }
 
-/// Reads the frame at a place of a line. The answer is given back where it is no halt: `Accepted` where the frame is of
-/// another format.
+/// Reads the halt at a place of a line.
 #[inline]
-pub fn read_halt(line: &[u8], at: usize) -> Result<(Frame, Halt), Answer> {
+pub fn read_halt(line: &[u8], at: usize) -> Result<(Frame, Halt), NotRead> {
     let mut halt = Halt::default();
-    let outcome = read_halt_into(line, at, &mut halt);
-    if outcome.accepts(Halt::FORMAT) {
-        Ok((outcome.frame(), halt))
-    } else {
-        Err(outcome.answer())
-    }
+    let frame = read_halt_into(line, at, &mut halt)?;
+    Ok((frame, halt))
 }
 
 /// The same into a lent halt. A refusal and an accepted frame of another format leave it as it was.
 #[inline]
-pub fn read_halt_into(line: &[u8], at: usize, halt: &mut Halt) -> Outcome {
+pub fn read_halt_into(line: &[u8], at: usize, halt: &mut Halt) -> Result<Frame, NotRead> {
     let mut event = [0; 4];
-    let outcome = Outcome::of(raw::read_halt(line, at, &mut halt.code, &mut event));
-    if outcome.accepts(Halt::FORMAT) {
-        halt.seq = outcome.seq();
-        halt.take(event);
-    }
-    outcome
+    let frame = Outcome::of(raw::read_halt(line, at, &mut halt.code.0, &mut event)).frame_of(Halt::FORMAT)?;
+    halt.seq = frame.seq;
+    halt.take(event);
+    Ok(frame)
 }
 
 /// Writes a halt as a frame at the start of a buffer, and gives the frame's length.
 #[inline]
 pub fn write_halt(halt: &Halt, buffer: &mut [u8]) -> Result<usize, NotWritten> {
-    written(raw::write_halt(halt.seq, &halt.code, &halt.numbers(), buffer))
+    written(raw::write_halt(halt.seq, &halt.code.0, &halt.numbers(), buffer))
 }

@@ -14,14 +14,18 @@ pub struct Ledger {
 /// What an arrival that is not refused is.
 #[derive(Clone, Copy, Debug, PartialEq, Eq, Hash)]
 pub enum Arrival {
+    /// It had not come before.
     New,
+    /// It had.
     Repeat,
 }
 
 /// A run of missing numbers, first and last included.
 #[derive(Clone, Copy, Debug, PartialEq, Eq, Hash)]
 pub struct Run {
+    /// Its lowest number.
     pub first: u32,
+    /// Its highest.
     pub last: u32,
 }
 
@@ -85,6 +89,7 @@ impl Ledger {
         Ledger { ends }
     }
 
+    /// The record, to be kept somewhere.
     #[inline]
     pub fn ends(&self) -> &[u32; 129] {
         &self.ends

@@ -5,30 +5,52 @@
 //! # let bytes = [0x1B, 0x00, 0x14, 0x01, 0x05, 0x01, 0x00, 0x00, 0x00, 0x01, 0x09, 0x19, 0x0D, 0x0A];
 //! for step in trivsome::Moves::new(&bytes, trivsome::Line::Closed) {
 //!     if let Ok((frame, quote)) = trivsome::read_quote(&bytes, step.at) {
-//!         println!("{} {:?} {:?}", frame.seq, quote.code, quote.bids());
+//!         for bid in quote.bids() {
+//!             println!("{} {} {} x {}", frame.seq, quote.code, bid.price, bid.quantity);
+//!         }
 //!     }
 //! }
 //! ```
 //!
+//! A frame of another format is an answer of its own, of the calls that read one format:
+//!
+//! ```
+//! # let notice = [0x1B, 0x00, 0x14, 0x01, 0x05, 0x01, 0x00, 0x00, 0x00, 0x01, 0x09, 0x19, 0x0D, 0x0A];
+//! let why = trivsome::read_quote(&notice, 0).expect_err("it is no quote");
+//! assert!(matches!(why, trivsome::NotRead::OtherFormat(frame) if frame.format == 5));
+//! assert_eq!(why.to_string(), "another format: 5");
+//! ```
+//!
 //! The calls themselves are in `raw`, with all the unsafe code that there is; the rest gives their numbers names.
+#![deny(missing_docs)]
 
 pub mod raw;
 
+// `raw` alone may have unsafe code: here not even an attribute of their own lets it in.
+#[forbid(unsafe_code)]
 mod halt;
+#[forbid(unsafe_code)]
 mod ledger;
+#[forbid(unsafe_code)]
 mod message;
+#[forbid(unsafe_code)]
 mod notice;
+#[forbid(unsafe_code)]
 mod outcome;
+#[forbid(unsafe_code)]
 mod prices;
+#[forbid(unsafe_code)]
 mod quote;
+#[forbid(unsafe_code)]
 mod units;
+#[forbid(unsafe_code)]
 mod walking;
 
 pub use halt::{read_halt, read_halt_into, write_halt, Event, Halt, Resume, Sending};
 pub use ledger::{Arrival, Ledger, LedgerRefusal, Run};
 pub use message::{read_message, write, Message};
 pub use notice::{read_notice, read_notice_into, write_notice, write_text, Notice};
-pub use outcome::{read, Answer, Frame, NotWritten, Outcome};
+pub use outcome::{read, Answer, Frame, NotRead, NotWritten, Outcome};
 pub use prices::{read_prices, read_prices_into, write_prices, Amounts, Prices, Slot};
 pub use quote::{read_quote, read_quote_into, write_quote, Quote};
 pub use units::{Code, Pair, Price, Quantity, LONG_NINES, SHORT_NINES};

@@ -1,12 +1,14 @@
 //! Format five: notices.
 
-use crate::outcome::{written, Answer, Frame, NotWritten, Outcome};
+use crate::outcome::{written, Frame, NotRead, NotWritten, Outcome};
 use crate::raw;
 
-/// A notice: its category (0, 9, 90 or 99) and up to 60 bytes of text, which nobody judges.
+/// A notice: its category and up to 60 bytes of text, which nobody judges.
 #[derive(Clone, Copy, Debug, PartialEq, Eq, Hash)]
 pub struct Notice {
+    /// The frame's number.
     pub seq: u32,
+    /// 0, 9, 90 or 99.
     pub category: u8,
     /// How many bytes of the text are used; the others are zero.
     length: u8,
@@ -22,6 +24,7 @@ impl Default for Notice {
 }
 
 impl Notice {
+    /// The format's number.
     pub const FORMAT: u8 = 5;
 
     /// A notice with this text, if it has 60 bytes at most.
@@ -39,28 +42,22 @@ impl Notice {
     }
 }
 
-/// Reads the frame at a place of a line. The answer is given back where it is no notice: `Accepted` where the frame is of
-/// another format.
+/// Reads the notice at a place of a line.
 #[inline]
-pub fn read_notice(line: &[u8], at: usize) -> Result<(Frame, Notice), Answer> {
+pub fn read_notice(line: &[u8], at: usize) -> Result<(Frame, Notice), NotRead> {
     let mut notice = Notice::default();
-    let outcome = read_notice_into(line, at, &mut notice);
-    if outcome.accepts(Notice::FORMAT) {
-        Ok((outcome.frame(), notice))
-    } else {
-        Err(outcome.answer())
-    }
+    let frame = read_notice_into(line, at, &mut notice)?;
+    Ok((frame, notice))
 }
 
 /// The same into a lent notice. A refusal and an accepted frame of another format leave it as it was.
 #[inline]
-pub fn read_notice_into(line: &[u8], at: usize, notice: &mut Notice) -> Outcome {
+pub fn read_notice_into(line: &[u8], at: usize, notice: &mut Notice) -> Result<Frame, NotRead> {
     let outcome = Outcome::of(raw::read_notice(line, at, &mut notice.category, &mut notice.text));
-    if outcome.accepts(Notice::FORMAT) {
-        notice.seq = outcome.seq();
-        notice.length = (outcome.length() - 14) as u8;
-    }
-    outcome
+    let frame = outcome.frame_of(Notice::FORMAT)?;
+    notice.seq = frame.seq;
+    notice.length = (frame.length - 14) as u8;
+    Ok(frame)
 }
 
 /// Writes a notice as a frame at the start of a buffer, and gives the frame's length.

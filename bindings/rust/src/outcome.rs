@@ -9,11 +9,14 @@ use crate::raw;
 #[repr(transparent)]
 pub struct Outcome(u64);
 
-/// An accepted frame: its format (5, 6, 12 or 19), its number and its whole length in bytes.
+/// An accepted frame.
 #[derive(Clone, Copy, Debug, PartialEq, Eq, Hash)]
 pub struct Frame {
+    /// 5, 6, 12 or 19.
     pub format: u8,
+    /// Its number.
     pub seq: u32,
+    /// Its whole length in bytes.
     pub length: usize,
 }
 
@@ -26,6 +29,17 @@ pub enum Answer {
     NoFrame(u8),
     /// 6 to 13, with the length: a whole frame that breaks a rule.
     Refused(u8, usize),
+}
+
+/// Why a reading of one format gives no message. What was lent is as it came.
+#[derive(Clone, Copy, Debug, PartialEq, Eq, Hash)]
+pub enum NotRead {
+    /// 1 to 5, the number alone: no whole frame stands here.
+    NoFrame(u8),
+    /// 6 to 13, with the length: a whole frame that breaks a rule.
+    Refused(u8, usize),
+    /// An accepted frame, which is of another format.
+    OtherFormat(Frame),
 }
 
 /// Why a message was not written. The buffer is as it came.
@@ -79,6 +93,7 @@ impl Outcome {
         self.0 as u16 == u16::from(format) << 8
     }
 
+    /// The same as one of three cases.
     #[inline]
     pub fn answer(self) -> Answer {
         match self.number() {
@@ -89,8 +104,21 @@ impl Outcome {
     }
 
     #[inline]
-    pub(crate) fn frame(self) -> Frame {
+    fn frame(self) -> Frame {
         Frame { format: self.format(), seq: self.seq(), length: self.length() }
+    }
+
+    /// The accepted frame, if it is of this format.
+    #[inline]
+    pub(crate) fn frame_of(self, format: u8) -> Result<Frame, NotRead> {
+        if self.accepts(format) {
+            return Ok(self.frame());
+        }
+        Err(match self.answer() {
+            Answer::Accepted(frame) => NotRead::OtherFormat(frame),
+            Answer::NoFrame(number) => NotRead::NoFrame(number),
+            Answer::Refused(number, length) => NotRead::Refused(number, length),
+        })
     }
 }
 
@@ -144,6 +172,29 @@ impl fmt::Display for Answer {
 }
 
 impl std::error::Error for Answer {}
+
+impl NotRead {
+    /// The reading's answer, which is `Accepted` for a frame of another format.
+    #[inline]
+    pub fn answer(self) -> Answer {
+        match self {
+            NotRead::NoFrame(number) => Answer::NoFrame(number),
+            NotRead::Refused(number, length) => Answer::Refused(number, length),
+            NotRead::OtherFormat(frame) => Answer::Accepted(frame),
+        }
+    }
+}
+
+impl fmt::Display for NotRead {
+    fn fmt(&self, f: &mut fmt::Formatter) -> fmt::Result {
+        match self {
+            NotRead::OtherFormat(frame) => write!(f, "another format: {}", frame.format),
+            refused => refused.answer().fmt(f),
+        }
+    }
+}
+
+impl std::error::Error for NotRead {}
 
 impl NotWritten {
     /// The number in the rules.

@@ -1,6 +1,6 @@
 //! Format six: live quotes.
 
-use crate::outcome::{written, Answer, Frame, NotWritten, Outcome};
+use crate::outcome::{written, Frame, NotRead, NotWritten, Outcome};
 use crate::raw;
 use crate::units::{Code, Pair, Quantity, LONG_NINES};
 
@@ -12,20 +12,28 @@ use crate::units::{Code, Pair, Quantity, LONG_NINES};
 pub struct Quote {
     /// HHMMSS and six digits of fraction; all nines in the day's last frame.
     pub time: u64,
+    /// The frame's number.
     pub seq: u32,
+    /// The quantity traded so far.
     pub total: Quantity,
+    /// The trade, if the reveal byte shows one.
     pub trade: Pair,
     /// Best first.
     pub bids: [Pair; 5],
     /// Best first.
     pub asks: [Pair; 5],
+    /// The stock.
     pub code: Code,
+    /// Which pairs there are: the trade in bit 7, how many bids in bits 4 to 6, how many asks in bits 1 to 3.
     pub reveal: u8,
+    /// The limit byte as it stands in the frame.
     pub limit: u8,
+    /// The status byte as it stands in the frame.
     pub status: u8,
 }
 
 impl Quote {
+    /// The format's number.
     pub const FORMAT: u8 = 6;
 
     /// The trade, if there is one.
@@ -53,27 +61,20 @@ impl Quote {
     }
 }
 
-/// Reads the frame at a place of a line. The answer is given back where it is no quote: `Accepted` where the frame is of
-/// another format.
+/// Reads the quote at a place of a line.
 #[inline]
-pub fn read_quote(line: &[u8], at: usize) -> Result<(Frame, Quote), Answer> {
+pub fn read_quote(line: &[u8], at: usize) -> Result<(Frame, Quote), NotRead> {
     let mut quote = Quote::default();
-    let outcome = read_quote_into(line, at, &mut quote);
-    if outcome.accepts(Quote::FORMAT) {
-        Ok((outcome.frame(), quote))
-    } else {
-        Err(outcome.answer())
-    }
+    let frame = read_quote_into(line, at, &mut quote)?;
+    Ok((frame, quote))
 }
 
 /// The same into a lent quote, without a copy. A refusal and an accepted frame of another format leave it as it was.
 #[inline]
-pub fn read_quote_into(line: &[u8], at: usize, quote: &mut Quote) -> Outcome {
-    let outcome = Outcome::of(raw::read_quote(line, at, quote));
-    if outcome.accepts(Quote::FORMAT) {
-        quote.seq = outcome.seq();
-    }
-    outcome
+pub fn read_quote_into(line: &[u8], at: usize, quote: &mut Quote) -> Result<Frame, NotRead> {
+    let frame = Outcome::of(raw::read_quote(line, at, quote)).frame_of(Quote::FORMAT)?;
+    quote.seq = frame.seq;
+    Ok(frame)
 }
 
 /// Writes a quote as a frame at the start of a buffer, and gives the frame's length.

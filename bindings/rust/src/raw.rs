@@ -102,28 +102,32 @@ const _: () = {
     assert!(offset_of!(Quote, asks) == amounts + 52);
     assert!(bytes + 9 <= size_of::<Quote>() && amounts + 92 <= size_of::<Quote>() && amounts % 4 == 0);
     assert!(size_of::<[crate::Pair; 5]>() == 40 && size_of::<[crate::Amounts; 10]>() == 200);
+    assert!(size_of::<[crate::Code; 10]>() == 60);
     assert!(offset_of!(crate::Pair, price) == 0 && offset_of!(crate::Amounts, total) == 16);
 };
 
+/// The answer at a place of a line, alone.
 #[inline]
 pub fn read(line: &[u8], at: usize) -> u64 {
     // SAFETY: the line is lent for the call, with its length.
     unsafe { calls::trivsome_read(line.as_ptr(), line.len(), at) }
 }
 
+/// The answer, and a notice's category and text; the length of the text is the frame's without 14.
 #[inline]
 pub fn read_notice(line: &[u8], at: usize, category: &mut u8, text: &mut [u8; 60]) -> u64 {
     // SAFETY: the line is lent with its length, the rest by references that nothing else holds.
     unsafe { calls::trivsome_read_notice_numbers(line.as_ptr(), line.len(), at, category, text) }
 }
 
+/// The answer, and a halt's code and its four numbers: the event, records or time halted, resume, state.
 #[inline]
 pub fn read_halt(line: &[u8], at: usize, code: &mut [u8; 6], event: &mut [u32; 4]) -> u64 {
     // SAFETY: the line is lent with its length, the rest by references that nothing else holds.
     unsafe { calls::trivsome_read_halt_numbers(line.as_ptr(), line.len(), at, code, event) }
 }
 
-/// The quote's own fields are lent; its number is in the outcome.
+/// The answer, and a quote. Its own fields are lent; its number is in the outcome.
 #[inline]
 pub fn read_quote(line: &[u8], at: usize, quote: &mut Quote) -> u64 {
     let whole: *mut Quote = quote;
@@ -136,7 +140,7 @@ pub fn read_quote(line: &[u8], at: usize, quote: &mut Quote) -> u64 {
     }
 }
 
-/// The prices' own fields are lent; their number is in the outcome.
+/// The answer, and prices. Their own fields are lent; their number is in the outcome.
 #[inline]
 pub fn read_prices(line: &[u8], at: usize, prices: &mut Prices) -> u64 {
     let Prices { count, codes, amounts, times, .. } = prices;
@@ -147,6 +151,7 @@ pub fn read_prices(line: &[u8], at: usize, prices: &mut Prices) -> u64 {
     }
 }
 
+/// Writes a notice: 0 with the length, 14 or 15.
 #[inline]
 pub fn write_notice(seq: u32, category: u8, text: &[u8], buffer: &mut [u8]) -> u64 {
     let (room, buffer) = (buffer.len(), buffer.as_mut_ptr());
@@ -154,6 +159,7 @@ pub fn write_notice(seq: u32, category: u8, text: &[u8], buffer: &mut [u8]) -> u
     unsafe { calls::trivsome_write_notice_numbers(seq, category, text.as_ptr(), text.len(), buffer, room) }
 }
 
+/// Writes a halt of its four numbers: 0 with the length, 14 or 15.
 #[inline]
 pub fn write_halt(seq: u32, code: &[u8; 6], event: &[u32; 4], buffer: &mut [u8]) -> u64 {
     let (room, buffer) = (buffer.len(), buffer.as_mut_ptr());
@@ -161,7 +167,7 @@ pub fn write_halt(seq: u32, code: &[u8; 6], event: &[u32; 4], buffer: &mut [u8])
     unsafe { calls::trivsome_write_halt_numbers(seq, code, event, buffer, room) }
 }
 
-/// The quote's own fields are lent.
+/// Writes a quote, whose own fields are lent: 0 with the length, 14 or 15.
 #[inline]
 pub fn write_quote(quote: &Quote, buffer: &mut [u8]) -> u64 {
     let whole: *const Quote = quote;
@@ -174,7 +180,7 @@ pub fn write_quote(quote: &Quote, buffer: &mut [u8]) -> u64 {
     }
 }
 
-/// The prices' own fields are lent.
+/// Writes prices, whose own fields are lent: 0 with the length, 14 or 15.
 #[inline]
 pub fn write_prices(prices: &Prices, buffer: &mut [u8]) -> u64 {
     let Prices { seq, count, codes, amounts, times } = prices;
@@ -184,55 +190,63 @@ pub fn write_prices(prices: &Prices, buffer: &mut [u8]) -> u64 {
     unsafe { calls::trivsome_write_prices_numbers(*seq, *count, codes.cast(), amounts.cast(), times, buffer, room) }
 }
 
+/// The move at a place of a line, 0 bytes long where the walk stops.
 #[inline]
 pub fn move_at(line: &[u8], at: usize, closed: bool) -> u64 {
     // SAFETY: the line is lent for the call, with its length.
     unsafe { calls::trivsome_move(line.as_ptr(), line.len(), at, closed) }
 }
 
-/// The tally: accepted, refused, skipped, waiting. Answers 0 or 16.
+/// Walks a line and moves a tally on, of accepted, refused, skipped and waiting bytes: 0 or 16.
 #[inline]
 pub fn walk(tally: &mut [u64; 4], line: &[u8], closed: bool) -> u64 {
     // SAFETY: the line is lent with its length, the tally by a reference that nothing else holds.
     unsafe { calls::trivsome_walk(tally, line.as_ptr(), line.len(), closed) }
 }
 
+/// Makes any record a fresh ledger's.
 #[inline]
 pub fn clear(ends: &mut [u32; 129]) {
     // SAFETY: the ends are lent by a reference that nothing else holds.
     unsafe { calls::trivsome_clear(ends) }
 }
 
+/// Records a number: 0, 20, 21 or 22.
 #[inline]
 pub fn arrive(ends: &mut [u32; 129], n: u32) -> u64 {
     // SAFETY: the ends are lent by a reference that nothing else holds.
     unsafe { calls::trivsome_arrive(ends, n) }
 }
 
+/// The highest number heard: 0 or 20.
 #[inline]
 pub fn highest(ends: &[u32; 129]) -> u64 {
     // SAFETY: the ends are lent by a reference.
     unsafe { calls::trivsome_highest(ends) }
 }
 
+/// How many numbers are heard: 0 or 20.
 #[inline]
 pub fn heard(ends: &[u32; 129]) -> u64 {
     // SAFETY: the ends are lent by a reference.
     unsafe { calls::trivsome_heard(ends) }
 }
 
+/// How many numbers below the highest are missing: 0 or 20.
 #[inline]
 pub fn missing(ends: &[u32; 129]) -> u64 {
     // SAFETY: the ends are lent by a reference.
     unsafe { calls::trivsome_missing(ends) }
 }
 
+/// How many missing runs there are: 0 or 20.
 #[inline]
 pub fn runs(ends: &[u32; 129]) -> u64 {
     // SAFETY: the ends are lent by a reference.
     unsafe { calls::trivsome_runs(ends) }
 }
 
+/// The missing run at a place: 0, 20 or 23.
 #[inline]
 pub fn run(ends: &[u32; 129], place: u32) -> u64 {
     // SAFETY: the ends are lent by a reference.

@@ -1,6 +1,8 @@
 //! Prices, quantities, pairs of them, codes and the times that are all nines.
 
-/// A price in ten-thousandths, up to 999,999,999.
+use std::fmt;
+
+/// A price in ten-thousandths, up to 999,999,999. It is shown with its four decimals, whatever precision is asked for.
 #[derive(Clone, Copy, Debug, Default, PartialEq, Eq, PartialOrd, Ord, Hash)]
 #[repr(transparent)]
 pub struct Price(pub u32);
@@ -14,15 +16,40 @@ pub struct Quantity(pub u32);
 #[derive(Clone, Copy, Debug, Default, PartialEq, Eq, Hash)]
 #[repr(C)]
 pub struct Pair {
+    /// The price.
     pub price: Price,
+    /// The quantity.
     pub quantity: Quantity,
 }
 
-/// A code as it stands in the frame, with its spaces.
-pub type Code = [u8; 6];
+/// A code as it stands in the frame, with its spaces. It is shown without the spaces behind it; a byte that no code of an
+/// accepted frame has, one outside 32 to 126, is shown as U+FFFD, which stands for no byte.
+#[derive(Clone, Copy, Debug, Default, PartialEq, Eq, PartialOrd, Ord, Hash)]
+#[repr(transparent)]
+pub struct Code(pub [u8; 6]);
 
 /// Twelve nines: in a quote the day's last frame, in prices a closing price.
 pub const LONG_NINES: u64 = 999_999_999_999;
 
 /// Six nines: in a halt a round's end, or a halt that is still open.
 pub const SHORT_NINES: u32 = 999_999;
+
+impl fmt::Display for Price {
+    fn fmt(&self, f: &mut fmt::Formatter) -> fmt::Result {
+        f.pad_integral(true, "", &format!("{}.{:04}", self.0 / 10_000, self.0 % 10_000))
+    }
+}
+
+impl fmt::Display for Quantity {
+    fn fmt(&self, f: &mut fmt::Formatter) -> fmt::Result {
+        self.0.fmt(f)
+    }
+}
+
+impl fmt::Display for Code {
+    fn fmt(&self, f: &mut fmt::Formatter) -> fmt::Result {
+        let shown = |byte| if matches!(byte, 32..=126) { char::from(byte) } else { char::REPLACEMENT_CHARACTER };
+        let text: String = self.0.map(shown).iter().collect();
+        f.pad(text.trim_end_matches(' '))
+    }
+}

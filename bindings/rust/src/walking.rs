@@ -8,7 +8,9 @@ use crate::raw;
 /// Whether more bytes may come behind a line.
 #[derive(Clone, Copy, Debug, PartialEq, Eq, Hash)]
 pub enum Line {
+    /// They may.
     Open,
+    /// They will not.
     Closed,
 }
 
@@ -19,12 +21,14 @@ impl Line {
     }
 }
 
-/// One move of a walk: its place, how many bytes it goes past, and what the reading said there. The message of an accepted
-/// frame is read at the place.
+/// One move of a walk. The message of an accepted frame is read at its place.
 #[derive(Clone, Copy, Debug, PartialEq, Eq, Hash)]
 pub struct Move {
+    /// Its place.
     pub at: usize,
+    /// How many bytes it goes past.
     pub bytes: usize,
+    /// What the reading said there.
     pub answer: Answer,
 }
 
@@ -37,6 +41,7 @@ pub struct Moves<'a> {
 }
 
 impl<'a> Moves<'a> {
+    /// The moves over these bytes.
     #[inline]
     pub fn new(bytes: &'a [u8], line: Line) -> Moves<'a> {
         Moves { line: bytes, at: 0, closed: line.is_closed() }
@@ -65,12 +70,16 @@ impl Iterator for Moves<'_> {
     }
 }
 
-/// Bytes in accepted frames, in refused frames, skipped, and waiting.
+/// The bytes of a line, or of all lines of a day, by what became of them.
 #[derive(Clone, Copy, Debug, Default, PartialEq, Eq, Hash)]
 pub struct Tally {
+    /// Those in accepted frames.
     pub accepted: u64,
+    /// Those in refused frames.
     pub refused: u64,
+    /// Those that are in no frame.
     pub skipped: u64,
+    /// Those at the end of an open line that may begin a frame.
     pub waiting: u64,
 }
 

@@ -3,5 +3,6 @@
 mod frames;
 mod ledger;
 mod reading;
+mod units;
 mod walking;
 mod writing;

@@ -61,7 +61,7 @@ fn a_halt_that_is_still_open() {
     let (frame, halt) = read_halt(&HALT, 0).expect("accepted");
     assert_eq!(frame, Frame { format: 19, seq: 1, length: 26 });
     let event = Event::Halted(100_500, Resume::Open);
-    assert_eq!(halt, Halt { seq: 1, code: *b"1234  ", event, state: Sending::Instant });
+    assert_eq!(halt, Halt { seq: 1, code: Code(*b"1234  "), event, state: Sending::Instant });
     assert!(!halt.is_whole_market());
 }
 
@@ -70,7 +70,7 @@ fn a_round_end_says_how_many_records_it_had() {
     let mut body = b"000123".to_vec();
     body.extend([0x99, 0x99, 0x99, 0x99, 0x99, 0x99, b'C']);
     let (_, halt) = read_halt(&around(0x19, 1, &body), 0).expect("accepted");
-    assert_eq!(halt, Halt { seq: 7, code: *b"000123", event: Event::RoundEnd(123), state: Sending::Cycle });
+    assert_eq!(halt, Halt { seq: 7, code: Code(*b"000123"), event: Event::RoundEnd(123), state: Sending::Cycle });
 }
 
 #[test]
@@ -78,7 +78,7 @@ fn the_reveal_byte_gives_the_pairs_and_the_length() {
     let (frame, read) = read_quote(&quote(0xA2, 4), 0).expect("accepted");
     let pair = |k: u32| Pair { price: Price(k), quantity: Quantity(10 * k) };
     assert_eq!(frame, Frame { format: 6, seq: 7, length: 68 });
-    assert_eq!((read.code, read.time, read.total), (*b"2330  ", 90_415_061_278, Quantity(12_345)));
+    assert_eq!((read.code, read.time, read.total), (Code(*b"2330  "), 90_415_061_278, Quantity(12_345)));
     assert_eq!((read.reveal, read.limit, read.status), (0xA2, 1, 2));
     assert_eq!(read.trade(), Some(pair(1)));
     assert_eq!(read.bids(), [pair(2), pair(3)]);
@@ -92,8 +92,8 @@ fn all_pairs_none_and_too_many() {
     assert_eq!((frame.length, all.asks[4].price), (131, Price(11)));
     let (frame, none) = read_quote(&quote(0x00, 0), 0).expect("accepted");
     assert_eq!((frame.length, none.trade(), none.bids().len(), none.asks().len()), (32, None, 0, 0));
-    assert_eq!(read_quote(&quote(0x60, 6), 0), Err(Answer::Refused(10, 86)));
-    assert_eq!(read_quote(&quote(0xA2, 3), 0), Err(Answer::Refused(9, 59)));
+    assert_eq!(read_quote(&quote(0x60, 6), 0), Err(NotRead::Refused(10, 86)));
+    assert_eq!(read_quote(&quote(0xA2, 3), 0), Err(NotRead::Refused(9, 59)));
 }
 
 #[test]
@@ -113,7 +113,7 @@ fn prices_of_one_stock() {
     let (_, prices) = read_prices(&frame, 0).expect("accepted");
     let [opening, highest, lowest, last] = [1, 3, 0, 2].map(|last| Price(900_000_000 + last));
     let amounts = Amounts { opening, highest, lowest, last, total: Quantity(99_999_999) };
-    let slot = Slot { code: *b"2330  ", amounts, time: LONG_NINES };
+    let slot = Slot { code: Code(*b"2330  "), amounts, time: LONG_NINES };
     assert_eq!(prices, Prices::new(7, &[slot]));
     assert!(prices.slots().eq([slot]) && slot.is_closing());
     let mut buffer = [0; 374];
@@ -121,21 +121,52 @@ fn prices_of_one_stock() {
     assert_eq!(buffer[..], frame);
 }
 
+fn word<M>(told: Result<(Frame, M), impl std::error::Error>) -> String {
+    told.map_or_else(|why| why.to_string(), |_| "read".into())
+}
+
+/// What each of the four readers says of a line, in words.
+fn words(line: &[u8]) -> [String; 4] {
+    [word(read_notice(line, 0)), word(read_quote(line, 0)), word(read_prices(line, 0)), word(read_halt(line, 0))]
+}
+
 #[test]
-fn a_frame_of_another_format_is_told_with_its_answer() {
+fn a_frame_of_another_format_is_said_to_be_one() {
+    let (five, six, nineteen) = ("another format: 5", "another format: 6", "another format: 19");
+    assert_eq!(words(&NOTICE), ["read", five, five, five]);
+    assert_eq!(words(&quote(0xA2, 4)), [six, "read", six, six]);
+    assert_eq!(words(&HALT), [nineteen, nineteen, nineteen, "read"]);
+    assert_eq!(words(&NOTICE[..13]), ["2: there are too few bytes"; 4]);
+    assert_eq!(words(&quote(0x60, 6)), ["10: a level count of 6 or 7"; 4]);
+}
+
+#[test]
+fn a_frame_of_another_format_is_told_and_leaves_what_was_lent() {
     let frame = Frame { format: 19, seq: 1, length: 26 };
-    assert_eq!(read_quote(&HALT, 0), Err(Answer::Accepted(frame)));
+    let other = NotRead::OtherFormat(frame);
+    assert_eq!(read_quote(&HALT, 0), Err(other));
+    assert_eq!(other.answer(), read(&HALT, 0).answer());
     assert!(matches!(read_message(&HALT, 0), Ok((told, Message::Halt(_))) if told == frame));
-    let lent = Quote { seq: 5, reveal: 1, ..Quote::default() };
-    let mut quote = lent;
-    assert!(read_quote_into(&HALT, 0, &mut quote).accepts(19));
-    assert_eq!(quote, lent);
+    let mut notice = Notice::new(5, 6, b"lent").expect("short");
+    let mut quote = Quote { seq: 5, reveal: 1, ..Quote::default() };
+    let mut prices = Prices { seq: 5, count: 1, ..Prices::default() };
+    let before = (notice, quote, prices);
+    assert_eq!(read_notice_into(&HALT, 0, &mut notice), Err(other));
+    assert_eq!(read_quote_into(&HALT, 0, &mut quote), Err(other));
+    assert_eq!(read_prices_into(&HALT, 0, &mut prices), Err(other));
+    assert_eq!((notice, quote, prices), before);
+    let lent = Halt { seq: 5, ..Halt::default() };
+    let mut halt = lent;
+    let other = NotRead::OtherFormat(Frame { format: 5, seq: 1, length: 14 });
+    assert_eq!(read_halt_into(&NOTICE, 0, &mut halt), Err(other));
+    assert_eq!(halt, lent);
+    assert_eq!(read_halt_into(&HALT, 0, &mut halt), Ok(frame));
 }
 
 #[test]
 fn a_refusal_leaves_what_was_lent() {
-    let lent = Quote { seq: 5, time: 6, code: *b"ABCDEF", reveal: 7, total: Quantity(8), ..Quote::default() };
+    let lent = Quote { seq: 5, time: 6, code: Code(*b"ABCDEF"), reveal: 7, total: Quantity(8), ..Quote::default() };
     let mut quote = lent;
-    assert_eq!(read_quote_into(&NOTICE[..13], 0, &mut quote).number(), 2);
+    assert_eq!(read_quote_into(&NOTICE[..13], 0, &mut quote), Err(NotRead::NoFrame(2)));
     assert_eq!(quote, lent);
 }

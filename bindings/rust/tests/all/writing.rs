@@ -42,7 +42,7 @@ fn a_message_that_breaks_a_rule_answers_14_first() {
 #[test]
 fn a_resume_at_nines_is_not_one_that_is_open() {
     let mut buffer = [0; 26];
-    let mut halt = Halt { seq: 1, code: *b"1234  ", event: Event::RoundEnd(1234), state: Sending::Instant };
+    let mut halt = Halt { seq: 1, code: Code(*b"1234  "), event: Event::RoundEnd(1234), state: Sending::Instant };
     assert_eq!(write_halt(&halt, &mut buffer), Err(NotWritten::Message));
     halt.event = Event::Halted(100_500, Resume::At(SHORT_NINES));
     assert_eq!(write_halt(&halt, &mut buffer), Err(NotWritten::Message));
@@ -60,7 +60,7 @@ fn an_unused_level_is_zero() {
 
 #[test]
 fn eleven_slots_are_too_many() {
-    let slot = Slot { code: *b"2330  ", amounts: Amounts::default(), time: 0 };
+    let slot = Slot { code: Code(*b"2330  "), amounts: Amounts::default(), time: 0 };
     assert_eq!(write_prices(&Prices::new(1, &[slot; 11]), &mut [0; 374]), Err(NotWritten::Message));
     assert_eq!(write_prices(&Prices::new(1, &[]), &mut [0; 374]), Err(NotWritten::Message));
     assert_eq!(write_prices(&Prices::new(1, &[slot; 10]), &mut [0; 374]), Ok(374));
