@@ -4,8 +4,9 @@
 
 int main(int argc, char **argv)
 {
-    FILE *file = argc == 2 ? fopen(argv[1], "rb") : NULL;
-    if (file == NULL) return perror(argc == 2 ? argv[1] : "usage: quotes FILE"), 1;
+    if (argc != 2) return fputs("usage: quotes FILE\n", stderr), 2;
+    FILE *file = fopen(argv[1], "rb");
+    if (file == NULL) return perror(argv[1]), 1;
     static uint8_t line[65536]; // what waits for more bytes is shorter than a frame, so there is always room for more
     size_t held = 0, at = 0, got, past;
     do {
@@ -13,7 +14,7 @@ int main(int argc, char **argv)
         held += got = fread(line + held, 1, sizeof line - held, file);
         for (at = 0; (past = trivsome_length(trivsome_move(line, held, at, got == 0))) != 0; at += past) {
             trivsome_quote q;
-            if (trivsome_format(trivsome_read_quote(line, held, at, &q)) != TRIVSOME_QUOTE) continue;
+            if (!trivsome_is_quote(trivsome_read_quote(line, held, at, &q))) continue;
             printf("%.6s %u trade %.4f x %u bid %.4f x %u ask %.4f x %u\n", (char *)q.code, q.seq, q.trade.price / 1e4, q.trade.quantity,
                 q.bids[0].price / 1e4, q.bids[0].quantity, q.asks[0].price / 1e4, q.asks[0].quantity);
         }

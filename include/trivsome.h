@@ -2,8 +2,9 @@
  *
  * No call needs a check before it: every place, length, number and byte is allowed, and what is wrong is answered. No call
  * keeps anything, allocates, blocks or prints; all are safe from several threads as long as they share no memory that one
- * of them changes. A pointer must lead to as much memory as the call takes, and must not be null, not even for 0 bytes;
- * memory that a call changes must not overlap its other memory. A call that refuses leaves all memory as it came.
+ * of them changes. A pointer must lead to as much memory as the call takes; with a length or size of 0 any pointer is good, a
+ * null one too, as an empty std::vector lends it. Memory that a call changes must not overlap its other memory. A call that
+ * refuses leaves all memory as it came.
  *
  * Every call answers with a number, 0 or the reason for a refusal, and carries figures above it, for which there are
  * functions below:
@@ -62,11 +63,17 @@ enum { TRIVSOME_NOTICE = 5, TRIVSOME_QUOTE = 6, TRIVSOME_PRICES = 12, TRIVSOME_H
  * What a call answers.
  */
 
-/* The answer's number, of every call but trivsome_clear. */
+/* The answer's number, of every call but trivsome_ledger_clear. */
 static inline unsigned trivsome_answer(uint64_t outcome) { return (unsigned)(outcome & 255); }
 
 /* Of a reading or a move: the format of an accepted frame, else 0. */
 static inline unsigned trivsome_format(uint64_t outcome) { return (unsigned)(outcome >> 8 & 255); }
+
+/* Of a reading or a move: a frame of this format is accepted. The struct of such a frame, if one was read into, is filled. */
+static inline bool trivsome_is_notice(uint64_t outcome) { return trivsome_format(outcome) == TRIVSOME_NOTICE; }
+static inline bool trivsome_is_quote(uint64_t outcome) { return trivsome_format(outcome) == TRIVSOME_QUOTE; }
+static inline bool trivsome_is_prices(uint64_t outcome) { return trivsome_format(outcome) == TRIVSOME_PRICES; }
+static inline bool trivsome_is_halt(uint64_t outcome) { return trivsome_format(outcome) == TRIVSOME_HALT; }
 
 /* Of a reading: the frame's length for 0 and 6 to 13, else 0. Of a writing: the bytes written. Of a move: the bytes that it
  * goes past; 0 where the walk stops. */
@@ -78,15 +85,17 @@ static inline uint32_t trivsome_seq(uint64_t outcome) { return (uint32_t)(outcom
 /* Of an arrival: the number is new. An answer of 0 that is not new is a repeat. */
 static inline bool trivsome_is_new(uint64_t outcome) { return outcome == 256; }
 
-/* Of trivsome_highest, _heard, _missing and _runs: the figure, where the answer is 0. */
+/* Of trivsome_ledger_highest, _heard, _missing and _runs: the figure, where the answer is 0. */
 static inline uint32_t trivsome_figure(uint64_t outcome) { return (uint32_t)(outcome >> 8); }
 
-/* Of trivsome_run: the run's first and last number, where the answer is 0. */
+/* Of trivsome_ledger_run: the run's first and last number, where the answer is 0. */
 static inline uint32_t trivsome_first(uint64_t outcome) { return (uint32_t)(outcome >> 8 & 0xFFFFFFF); }
 static inline uint32_t trivsome_last(uint64_t outcome) { return (uint32_t)(outcome >> 36); }
 
 /* ------------------------------------------------------------------------------------------------------------------------
- * Messages.
+ * Messages. What a struct of zeros is, made by {0} or in C++ by {}: a notice of category 0 without text, which can be written;
+ * a quote, prices or a halt that cannot, and answers 14, since six zeros are no code. Prices start from TRIVSOME_NO_PRICES
+ * instead. A tally and a ledger of zeros, further below, are fresh ones.
  */
 
 typedef struct {
@@ -134,6 +143,13 @@ typedef struct {
     trivsome_slot slots[10]; /* behind the count: six spaces for the code, and zeros */
 } trivsome_prices;
 
+/* Prices with no slot in use, to start from: trivsome_prices prices = TRIVSOME_NO_PRICES. As they are they cannot be written,
+ * and answer 14. */
+#define TRIVSOME_NO_PRICES \
+    {0, 0, {TRIVSOME_NO_SLOT, TRIVSOME_NO_SLOT, TRIVSOME_NO_SLOT, TRIVSOME_NO_SLOT, TRIVSOME_NO_SLOT, \
+            TRIVSOME_NO_SLOT, TRIVSOME_NO_SLOT, TRIVSOME_NO_SLOT, TRIVSOME_NO_SLOT, TRIVSOME_NO_SLOT}}
+#define TRIVSOME_NO_SLOT {{' ', ' ', ' ', ' ', ' ', ' '}, 0, 0, 0, 0, 0, 0}
+
 enum { TRIVSOME_ROUND_END = 0, TRIVSOME_HALTED = 1 };
 
 typedef struct {
@@ -147,15 +163,16 @@ typedef struct {
 } trivsome_halt;
 
 /* ------------------------------------------------------------------------------------------------------------------------
- * The calls of the archive: bytes and numbers. The four readings and writings of messages have an easier form below.
+ * The calls of the archive: bytes and numbers. Those on messages, tallies and ledgers have an easier form below.
  */
 
 /* What the bytes of a line from a place on are: 0 to 13. A place at or behind the line's end answers 2. */
 uint64_t trivsome_read(const uint8_t *line, size_t length, size_t at);
 
 /* The same answer, and the message. An accepted frame of another format is answered 0 with that format, and leaves the memory
- * for the message as it came. A notice's text has the frame's length less 14 bytes. The numbers of a quote: code, reveal, limit, status; total, trade, bids, asks, each pair as price and quantity. Of prices: for each slot the
- * code; opening, highest, lowest, last, total; the time. Of a halt: event, records or halted, resume, state. */
+ * for the message as it came. A notice's text has the frame's length less 14 bytes. The numbers of a quote: code, reveal,
+ * limit, status; total, trade, bids, asks, each pair as price and quantity. Of prices: for each slot the code; opening,
+ * highest, lowest, last, total; the time. Of a halt: event, records or halted, resume, state. */
 uint64_t trivsome_read_notice_numbers(const uint8_t *line, size_t length, size_t at, uint8_t *category, uint8_t text[60]);
 uint64_t trivsome_read_quote_numbers(const uint8_t *line, size_t length, size_t at, uint8_t bytes[9], uint64_t *time, uint32_t amounts[23]);
 uint64_t trivsome_read_prices_numbers(const uint8_t *line, size_t length, size_t at, uint8_t *count, uint8_t codes[60], uint32_t amounts[50], uint64_t times[10]);
@@ -176,28 +193,19 @@ uint64_t trivsome_move(const uint8_t *line, size_t length, size_t at, bool close
  * walk's. 0 or 16. See trivsome_walk_line below. */
 uint64_t trivsome_walk(uint64_t tally[4], const uint8_t *line, size_t length, bool closed);
 
-/* A ledger of the numbers that arrived today in one format. Lend its ends: trivsome_arrive(ledger.ends, 5). */
-typedef struct {
-    uint32_t ends[129];
-} trivsome_ledger;
-
-/* Makes any ledger a fresh one; nothing is heard. */
+/* The ledger, by the ends in its record. See trivsome_ledger below, and the calls that take one. */
 void trivsome_clear(uint32_t ends[129]);
-
-/* Records a number: 0 (new, or a repeat: trivsome_is_new), 20, 21 or 22. */
 uint64_t trivsome_arrive(uint32_t ends[129], uint32_t n);
-
-/* The highest number heard, how many are heard, how many below the highest are missing, in how many runs: 0 or 20. */
 uint64_t trivsome_highest(const uint32_t ends[129]);
 uint64_t trivsome_heard(const uint32_t ends[129]);
 uint64_t trivsome_missing(const uint32_t ends[129]);
 uint64_t trivsome_runs(const uint32_t ends[129]);
-
-/* The missing run at a place, from 0 for the lowest: 0, 20 or 23. */
 uint64_t trivsome_run(const uint32_t ends[129], uint32_t place);
 
 /* ------------------------------------------------------------------------------------------------------------------------
- * The same with structs. A reading changes the struct only if it accepts a frame of that format: test trivsome_format.
+ * The same with structs. A reading changes the struct only if it accepts a frame of that format:
+ *
+ *   if (trivsome_is_quote(trivsome_read_quote(line, length, at, &quote))) ..
  */
 
 /* Reads a notice: 0 to 13. */
@@ -205,7 +213,7 @@ static inline uint64_t trivsome_read_notice(const uint8_t *line, size_t length, 
 {
     uint8_t category = 0, text[60] = {0};
     uint64_t outcome = trivsome_read_notice_numbers(line, length, at, &category, text);
-    if (trivsome_format(outcome) == TRIVSOME_NOTICE) {
+    if (trivsome_is_notice(outcome)) {
         notice->seq = trivsome_seq(outcome);
         notice->category = category;
         notice->length = (uint8_t)(trivsome_length(outcome) - 14);
@@ -221,7 +229,7 @@ static inline uint64_t trivsome_read_quote(const uint8_t *line, size_t length, s
     uint64_t time = 0;
     uint32_t amounts[23] = {0};
     uint64_t outcome = trivsome_read_quote_numbers(line, length, at, bytes, &time, amounts);
-    if (trivsome_format(outcome) == TRIVSOME_QUOTE) {
+    if (trivsome_is_quote(outcome)) {
         quote->seq = trivsome_seq(outcome);
         memcpy(quote->code, bytes, 6);
         quote->reveal = bytes[6];
@@ -248,7 +256,7 @@ static inline uint64_t trivsome_read_prices(const uint8_t *line, size_t length, 
     uint32_t amounts[50] = {0};
     uint64_t times[10] = {0};
     uint64_t outcome = trivsome_read_prices_numbers(line, length, at, &count, codes, amounts, times);
-    if (trivsome_format(outcome) == TRIVSOME_PRICES) {
+    if (trivsome_is_prices(outcome)) {
         prices->seq = trivsome_seq(outcome);
         prices->count = count;
         for (int i = 0; i < 10; i++) {
@@ -271,7 +279,7 @@ static inline uint64_t trivsome_read_halt(const uint8_t *line, size_t length, si
     uint8_t code[6] = {0};
     uint32_t event[4] = {0};
     uint64_t outcome = trivsome_read_halt_numbers(line, length, at, code, event);
-    if (trivsome_format(outcome) == TRIVSOME_HALT) {
+    if (trivsome_is_halt(outcome)) {
         halt->seq = trivsome_seq(outcome);
         memcpy(halt->code, code, 6);
         halt->event = (uint8_t)event[0];
@@ -344,7 +352,7 @@ static inline uint64_t trivsome_write_halt(const trivsome_halt *halt, uint8_t *b
     return trivsome_write_halt_numbers(halt->seq, halt->code, event, buf, size);
 }
 
-/* Bytes of a line, or of all lines of a day, by what became of them. */
+/* Bytes of a line, or of all lines of a day, by what became of them. All zeros are a fresh tally. */
 typedef struct {
     uint64_t accepted;
     uint64_t refused;
@@ -362,6 +370,34 @@ static inline uint64_t trivsome_walk_line(trivsome_tally *tally, const uint8_t *
     tally->skipped = figures[2];
     tally->waiting = figures[3];
     return outcome;
+}
+
+/* A ledger of the numbers that arrived today in one format. All zeros are a fresh one: trivsome_ledger ledger = {0}.
+ *
+ * It is 129 numbers of 32 bits and nothing else, so one machine keeps it in a file by fwrite and fread of the whole struct;
+ * between machines write each number in an order of bytes that is the same on both. What is read back may be any numbers: where
+ * no arrivals leave such a record every call but the clearing answers 20, and changes nothing. Damage that makes it the record
+ * of other arrivals is not seen. */
+typedef struct {
+    uint32_t ends[129];
+} trivsome_ledger;
+
+/* Makes any ledger a fresh one; nothing is heard. */
+static inline void trivsome_ledger_clear(trivsome_ledger *ledger) { trivsome_clear(ledger->ends); }
+
+/* Records a number: 0 (new, or a repeat: trivsome_is_new), 20, 21 or 22. */
+static inline uint64_t trivsome_ledger_arrive(trivsome_ledger *ledger, uint32_t n) { return trivsome_arrive(ledger->ends, n); }
+
+/* The highest number heard, how many are heard, how many below the highest are missing, in how many runs: 0 or 20. */
+static inline uint64_t trivsome_ledger_highest(const trivsome_ledger *ledger) { return trivsome_highest(ledger->ends); }
+static inline uint64_t trivsome_ledger_heard(const trivsome_ledger *ledger) { return trivsome_heard(ledger->ends); }
+static inline uint64_t trivsome_ledger_missing(const trivsome_ledger *ledger) { return trivsome_missing(ledger->ends); }
+static inline uint64_t trivsome_ledger_runs(const trivsome_ledger *ledger) { return trivsome_runs(ledger->ends); }
+
+/* The missing run at a place, from 0 for the lowest: 0, 20 or 23. */
+static inline uint64_t trivsome_ledger_run(const trivsome_ledger *ledger, uint32_t place)
+{
+    return trivsome_run(ledger->ends, place);
 }
 
 #ifdef __cplusplus

@@ -1,18 +1,6 @@
 // Tries the calls of include/trivsome.h at their edges. What is expected is written by hand from docs/RULES.md. Prints each line
 // that does not hold, and ends with status 1 if there was one.
-#include <inttypes.h>
-#include <stdio.h>
-#include "trivsome.h"
-
-static int wrong;
-
-#define HOLDS(test) ((test) ? (void)0 : (void)(printf("calls.c:%d: does not hold: %s\n", __LINE__, #test), wrong = 1))
-
-// The outcome of a reading or a move, put together the other way round.
-static uint64_t outcome(unsigned answer, unsigned format, unsigned length, uint32_t seq)
-{
-    return (uint64_t)seq << 32 | (uint64_t)length << 16 | (uint64_t)format << 8 | answer;
-}
+#include "common.h"
 
 static bool filled(const void *memory, size_t size)
 {
@@ -25,8 +13,7 @@ static bool filled(const void *memory, size_t size)
 #define FILL(thing) memset(&(thing), 0xA5, sizeof(thing))
 #define FILLED(thing) filled(&(thing), sizeof(thing))
 
-// The notice and halt of docs/RULES.md, and the specification's fourth example of a quote with the check byte that the rule gives.
-static const uint8_t NOTICE[14] = {0x1B, 0x00, 0x14, 0x01, 0x05, 0x01, 0x00, 0x00, 0x00, 0x01, 0x09, 0x19, 0x0D, 0x0A};
+// The halt of docs/RULES.md, and the specification's fourth example of a quote with the check byte that the rule gives.
 static const uint8_t HALT[26] = {0x1B, 0x00, 0x26, 0x01, 0x19, 0x01, 0x00, 0x00, 0x00, 0x01, 0x31, 0x32, 0x33, 0x34,
                                  0x20, 0x20, 0x10, 0x05, 0x00, 0x99, 0x99, 0x99, 0x49, 0xFF, 0x0D, 0x0A};
 static const uint8_t QUOTE[41] = {0x1B, 0x00, 0x41, 0x01, 0x06, 0x04, 0x00, 0x00, 0x83, 0x25, 0x31, 0x33, 0x30, 0x31,
@@ -52,6 +39,8 @@ static void reading(void)
 {
     uint8_t line[14] = {0};
     refused(line, 0, 0, 2);
+    refused(NULL, 0, 0, 2);
+    refused(NULL, 0, SIZE_MAX, 2);
     refused((const uint8_t *)"\x1B\x0A", 2, 0, 2);
     refused((const uint8_t *)"\x1B\x0A\x14", 3, 0, 3);
     refused((const uint8_t *)"\x41", 1, 0, 1);
@@ -96,6 +85,48 @@ static void reading(void)
     HOLDS(trivsome_read_quote(NOTICE, 14, 0, &q) == outcome(0, 5, 14, 1) && FILLED(q));
     HOLDS(trivsome_read_halt(QUOTE, 41, 0, &h) == outcome(0, 6, 41, 8325) && FILLED(h));
     HOLDS(trivsome_read_notice(HALT, 26, 0, &n) == outcome(0, 19, 26, 1) && FILLED(n));
+}
+
+// Whether the struct of an outcome is filled: format by format.
+static void kinds(void)
+{
+    static const unsigned formats[4] = {TRIVSOME_NOTICE, TRIVSOME_QUOTE, TRIVSOME_PRICES, TRIVSOME_HALT};
+    for (int i = 0; i < 4; i++) {
+        uint64_t x = outcome(0, formats[i], 14, 1);
+        HOLDS(trivsome_is_notice(x) == (i == 0) && trivsome_is_quote(x) == (i == 1));
+        HOLDS(trivsome_is_prices(x) == (i == 2) && trivsome_is_halt(x) == (i == 3));
+    }
+    // a refusal with a length, and a writing that is done, fill none
+    for (unsigned answer = 0; answer <= 13; answer++) {
+        uint64_t x = outcome(answer, 0, 14, 0);
+        HOLDS(!trivsome_is_notice(x) && !trivsome_is_quote(x) && !trivsome_is_prices(x) && !trivsome_is_halt(x));
+    }
+    trivsome_quote q;
+    HOLDS(trivsome_is_quote(trivsome_read_quote(QUOTE, 41, 0, &q)) && !trivsome_is_quote(trivsome_read_quote(HALT, 26, 0, &q)));
+}
+
+// What {0} is of each message, and where a buffer of no bytes may be null.
+static void zeros(void)
+{
+    uint8_t buf[TRIVSOME_LONGEST];
+    trivsome_notice n = {0};
+    trivsome_quote q = {0};
+    trivsome_prices p = {0};
+    trivsome_halt h = {0};
+    HOLDS(trivsome_write_notice(&n, buf, sizeof buf) == outcome(0, 0, 14, 0));
+    FILL(buf);
+    HOLDS(trivsome_write_quote(&q, buf, sizeof buf) == 14 && FILLED(buf));
+    HOLDS(trivsome_write_prices(&p, buf, sizeof buf) == 14 && FILLED(buf));
+    HOLDS(trivsome_write_halt(&h, buf, sizeof buf) == 14 && FILLED(buf));
+    HOLDS(trivsome_write_quote(&q, NULL, 0) == 14 && trivsome_write_prices(&p, NULL, 0) == 14 && trivsome_write_halt(&h, NULL, 0) == 14);
+    // with a code the quote can be written, and with a state the halt, a round's end of no records
+    memcpy(q.code, "2330  ", 6), memcpy(h.code, "000000", 6), h.state = 'C';
+    HOLDS(trivsome_write_quote(&q, buf, sizeof buf) == outcome(0, 0, 32, 0));
+    HOLDS(trivsome_write_halt(&h, buf, sizeof buf) == outcome(0, 0, 26, 0));
+    HOLDS(trivsome_write_notice(&n, NULL, 0) == 15 && trivsome_write_quote(&q, NULL, 0) == 15 && trivsome_write_halt(&h, NULL, 0) == 15);
+    // a text of no bytes
+    HOLDS(trivsome_write_notice_numbers(1, 9, NULL, 0, buf, sizeof buf) == outcome(0, 0, 14, 0) && memcmp(buf, NOTICE, 14) == 0);
+    HOLDS(trivsome_write_notice_numbers(1, 9, NULL, 0, NULL, 0) == 15 && trivsome_write_notice_numbers(1, 8, NULL, 0, NULL, 0) == 14);
 }
 
 static bool same_pair(trivsome_pair a, trivsome_pair b) { return a.price == b.price && a.quantity == b.quantity; }
@@ -164,10 +195,15 @@ static void writing_quotes(void)
 static void writing_prices(void)
 {
     uint8_t buf[TRIVSOME_LONGEST];
-    trivsome_prices p = {7, 2, {{{0}, 0, 0, 0, 0, 0, 0}}}, again;
-    for (uint32_t i = 0; i < 10; i++) {
-        memcpy(p.slots[i].code, "      ", 6);
-        if (i >= p.count) continue;
+    trivsome_prices p = TRIVSOME_NO_PRICES, again;
+    for (int i = 0; i < 10; i++) {
+        trivsome_slot s = p.slots[i];
+        HOLDS(memcmp(s.code, "      ", 6) == 0 && s.opening == 0 && s.highest == 0 && s.lowest == 0 && s.last == 0 && s.total == 0 && s.time == 0);
+    }
+    FILL(buf);
+    HOLDS(p.seq == 0 && p.count == 0 && trivsome_write_prices(&p, buf, sizeof buf) == 14 && FILLED(buf));
+    p.seq = 7, p.count = 2;
+    for (uint32_t i = 0; i < p.count; i++) {
         p.slots[i].code[0] = (uint8_t)('1' + i);
         p.slots[i].opening = 100 + i, p.slots[i].highest = 200 + i, p.slots[i].lowest = 300 + i;
         p.slots[i].last = 400 + i, p.slots[i].total = 500 + i;
@@ -184,7 +220,7 @@ static void writing_prices(void)
         HOLDS(a.last == b.last && a.total == b.total && a.time == b.time);
     }
     FILL(buf);
-    HOLDS(trivsome_write_prices(&p, buf, 373) == 15 && FILLED(buf));
+    HOLDS(trivsome_write_prices(&p, buf, 373) == 15 && trivsome_write_prices(&p, NULL, 0) == 15 && FILLED(buf));
     p.count = 1; // the second slot is not counted, and not unused
     HOLDS(trivsome_write_prices(&p, buf, sizeof buf) == 14 && FILLED(buf));
     p.count = 11;
@@ -244,7 +280,9 @@ static void walking(void)
     HOLDS(trivsome_move(line, 16, 16, true) == outcome(2, 0, 0, 0));
     HOLDS(trivsome_move(line, 15, 2, false) == outcome(2, 0, 0, 0));
     HOLDS(trivsome_move(line, 15, 2, true) == outcome(2, 0, 1, 0));
-    trivsome_tally t = {0, 0, 0, 0};
+    HOLDS(trivsome_move(NULL, 0, 0, false) == outcome(2, 0, 0, 0) && trivsome_move(NULL, 0, 0, true) == outcome(2, 0, 0, 0));
+    trivsome_tally t = {0};
+    HOLDS(trivsome_walk_line(&t, NULL, 0, false) == 0 && trivsome_walk_line(&t, NULL, 0, true) == 0 && tally_is(t, 0, 0, 0, 0));
     HOLDS(trivsome_walk_line(&t, line, 16, true) == 0 && tally_is(t, 14, 0, 2, 0));
     HOLDS(trivsome_walk_line(&t, line, 15, false) == 0 && tally_is(t, 14, 0, 4, 13));
     HOLDS(trivsome_walk_line(&t, line, 15, true) == 0 && tally_is(t, 14, 0, 19, 0));
@@ -267,53 +305,55 @@ static void walking(void)
 
 static bool figures_are(const trivsome_ledger *l, uint32_t highest, uint32_t heard, uint32_t missing, uint32_t runs)
 {
-    uint64_t h = trivsome_highest(l->ends), n = trivsome_heard(l->ends), m = trivsome_missing(l->ends), r = trivsome_runs(l->ends);
+    uint64_t h = trivsome_ledger_highest(l), n = trivsome_ledger_heard(l), m = trivsome_ledger_missing(l), r = trivsome_ledger_runs(l);
     return trivsome_answer(h) == 0 && trivsome_answer(n) == 0 && trivsome_answer(m) == 0 && trivsome_answer(r) == 0 &&
            trivsome_figure(h) == highest && trivsome_figure(n) == heard && trivsome_figure(m) == missing && trivsome_figure(r) == runs;
 }
 
 static bool run_is(const trivsome_ledger *l, uint32_t place, uint32_t first, uint32_t last)
 {
-    uint64_t x = trivsome_run(l->ends, place);
+    uint64_t x = trivsome_ledger_run(l, place);
     return trivsome_answer(x) == 0 && trivsome_first(x) == first && trivsome_last(x) == last;
 }
 
 static void damaged(const trivsome_ledger *l)
 {
     trivsome_ledger copy = *l;
-    HOLDS(trivsome_arrive(copy.ends, 3) == 20 && trivsome_arrive(copy.ends, 0) == 20); // 20 before 21
+    HOLDS(trivsome_ledger_arrive(&copy, 3) == 20 && trivsome_ledger_arrive(&copy, 0) == 20); // 20 before 21
     HOLDS(memcmp(&copy, l, sizeof copy) == 0);
-    HOLDS(trivsome_highest(l->ends) == 20 && trivsome_heard(l->ends) == 20 && trivsome_missing(l->ends) == 20);
-    HOLDS(trivsome_runs(l->ends) == 20 && trivsome_run(l->ends, 0) == 20 && trivsome_run(l->ends, 64) == 20);
+    HOLDS(trivsome_ledger_highest(l) == 20 && trivsome_ledger_heard(l) == 20 && trivsome_ledger_missing(l) == 20);
+    HOLDS(trivsome_ledger_runs(l) == 20 && trivsome_ledger_run(l, 0) == 20 && trivsome_ledger_run(l, 64) == 20);
 }
 
 static void ledger(void)
 {
-    trivsome_ledger l;
+    trivsome_ledger l, fresh = {0};
+    HOLDS(figures_are(&fresh, 0, 0, 0, 0) && trivsome_ledger_run(&fresh, 0) == 23);
     FILL(l);
     damaged(&l);
-    trivsome_clear(l.ends);
-    HOLDS(figures_are(&l, 0, 0, 0, 0) && trivsome_run(l.ends, 0) == 23);
-    HOLDS(trivsome_arrive(l.ends, 0) == 21 && trivsome_arrive(l.ends, 100000000) == 21 && figures_are(&l, 0, 0, 0, 0));
+    trivsome_ledger_clear(&l);
+    HOLDS(memcmp(&l, &fresh, sizeof l) == 0);
+    HOLDS(figures_are(&l, 0, 0, 0, 0) && trivsome_ledger_run(&l, 0) == 23);
+    HOLDS(trivsome_ledger_arrive(&l, 0) == 21 && trivsome_ledger_arrive(&l, 100000000) == 21 && figures_are(&l, 0, 0, 0, 0));
 
-    HOLDS(trivsome_is_new(trivsome_arrive(l.ends, 5)) && trivsome_is_new(trivsome_arrive(l.ends, 2)));
-    uint64_t repeat = trivsome_arrive(l.ends, 5);
+    HOLDS(trivsome_is_new(trivsome_ledger_arrive(&l, 5)) && trivsome_is_new(trivsome_ledger_arrive(&l, 2)));
+    uint64_t repeat = trivsome_ledger_arrive(&l, 5);
     HOLDS(trivsome_answer(repeat) == 0 && !trivsome_is_new(repeat));
     HOLDS(figures_are(&l, 5, 2, 3, 2) && run_is(&l, 0, 1, 1) && run_is(&l, 1, 3, 4));
-    HOLDS(trivsome_run(l.ends, 2) == 23 && trivsome_run(l.ends, UINT32_MAX) == 23);
+    HOLDS(trivsome_ledger_run(&l, 2) == 23 && trivsome_ledger_run(&l, UINT32_MAX) == 23);
 
-    trivsome_clear(l.ends);
-    for (uint32_t n = 2; n <= 128; n += 2) HOLDS(trivsome_is_new(trivsome_arrive(l.ends, n)));
+    trivsome_ledger_clear(&l);
+    for (uint32_t n = 2; n <= 128; n += 2) HOLDS(trivsome_is_new(trivsome_ledger_arrive(&l, n)));
     HOLDS(figures_are(&l, 128, 64, 64, 64));
     trivsome_ledger full = l;
-    HOLDS(trivsome_arrive(l.ends, 130) == 22 && memcmp(&full, &l, sizeof l) == 0);
-    HOLDS(trivsome_is_new(trivsome_arrive(l.ends, 129)) && trivsome_is_new(trivsome_arrive(l.ends, 1)));
-    HOLDS(trivsome_is_new(trivsome_arrive(l.ends, 131)));
-    HOLDS(figures_are(&l, 131, 67, 64, 64) && run_is(&l, 0, 3, 3) && run_is(&l, 63, 130, 130) && trivsome_run(l.ends, 64) == 23);
+    HOLDS(trivsome_ledger_arrive(&l, 130) == 22 && memcmp(&full, &l, sizeof l) == 0);
+    HOLDS(trivsome_is_new(trivsome_ledger_arrive(&l, 129)) && trivsome_is_new(trivsome_ledger_arrive(&l, 1)));
+    HOLDS(trivsome_is_new(trivsome_ledger_arrive(&l, 131)));
+    HOLDS(figures_are(&l, 131, 67, 64, 64) && run_is(&l, 0, 3, 3) && run_is(&l, 63, 130, 130) && trivsome_ledger_run(&l, 64) == 23);
 
     // the longest run that there can be
-    trivsome_clear(l.ends);
-    HOLDS(trivsome_is_new(trivsome_arrive(l.ends, 99999999)));
+    trivsome_ledger_clear(&l);
+    HOLDS(trivsome_is_new(trivsome_ledger_arrive(&l, 99999999)));
     HOLDS(figures_are(&l, 99999999, 1, 99999998, 1) && run_is(&l, 0, 1, 99999998));
 
     // records that no arrivals leave: a highest number that is none, a run up to the highest, a place behind the unused ones
@@ -322,14 +362,43 @@ static void ledger(void)
     l = (trivsome_ledger){{5, 0, 1}}, damaged(&l);
 }
 
+// A ledger kept in a file: it goes on where it was; a number changed in the file is answered 20.
+static void storing(void)
+{
+    trivsome_ledger l = {0}, again;
+    HOLDS(sizeof l == 129 * 4);
+    HOLDS(trivsome_is_new(trivsome_ledger_arrive(&l, 5)) && trivsome_is_new(trivsome_ledger_arrive(&l, 2)));
+    FILE *file = tmpfile();
+    if (file == NULL) {
+        HOLDS(!"there is a file to store a ledger in");
+        return;
+    }
+    HOLDS(fwrite(&l, sizeof l, 1, file) == 1);
+    rewind(file);
+    HOLDS(fread(&again, sizeof again, 1, file) == 1 && figures_are(&again, 5, 2, 3, 2));
+    HOLDS(trivsome_ledger_arrive(&again, 2) == 0 && trivsome_is_new(trivsome_ledger_arrive(&again, 4)));
+    HOLDS(figures_are(&again, 5, 3, 2, 2) && run_is(&again, 0, 1, 1) && run_is(&again, 1, 3, 3));
+
+    // the record holds 5, 4, 2, 1: the highest, and the ends of the stretches below it; 6 in place of the 4 is no such end
+    uint32_t six = 6;
+    HOLDS(fseek(file, 4, SEEK_SET) == 0 && fwrite(&six, 4, 1, file) == 1);
+    rewind(file);
+    HOLDS(fread(&again, sizeof again, 1, file) == 1);
+    damaged(&again);
+    fclose(file);
+}
+
 int main(void)
 {
     reading();
+    kinds();
+    zeros();
     writing_notices();
     writing_quotes();
     writing_prices();
     writing_halts();
     walking();
     ledger();
+    storing();
     return wrong;
 }

@@ -1,7 +1,7 @@
 #!/bin/sh
-# Tries the library as its users in C do: builds the archive, compiles the header as C and C++, the example and the test of the
-# calls, and compares what the example prints with what a program in Python makes of the same files. Prints what differs, and
-# ends with status 1 if anything did.
+# Tries the library as its users in C and C++ do: builds the archive, compiles the header, the example and the tests of the calls,
+# and compares what the example prints with what a program in Python makes of the same files. Prints what differs, and ends with
+# status 1 if anything did.
 set -u
 cd "$(dirname "$0")/../.." || exit 2
 work=$(mktemp -d) || exit 2
@@ -22,6 +22,23 @@ expect() {
     [ "$got" -eq "$wanted" ] || differs "status $got instead of $wanted: $*"
 }
 
+# compiled NAME COMMAND..: makes $work/NAME of a source
+compiled() {
+    program=$1
+    shift
+    "$@" -Wall -Wextra -Werror -pedantic -O2 -Iinclude -o "$work/$program" "$archive" || { differs "it does not compile: $*"; exit 1; }
+}
+
+# tried COMMAND..: compiles a test and runs it, and does both again with a check of what C and C++ leave undefined, if there is one
+undefined="-fsanitize=undefined -fno-sanitize-recover=undefined"
+tried() {
+    compiled test "$@"
+    expect 0 "$work/test"
+    "$1" $undefined -o "$work/none" "$work/none.c" 2>"$work/said" || return
+    compiled test "$@" $undefined
+    expect 0 "$work/test"
+}
+
 command -v cc >/dev/null || { differs "there is no C compiler, no command cc"; exit 1; }
 ./trivsome library >"$work/said" || { differs "it could not be built"; exit 1; }
 archive=$(sed -n 's/^archive //p' "$work/said")
@@ -33,16 +50,15 @@ touch "$work/before"
 [ "$(native/build library 2>&1)" = "$archive" ] || differs "a second build says something else than the archive's path"
 [ -z "$(find "$archive" -newer "$work/before")" ] || differs "the archive is built again though nothing has changed"
 
-for name in examples/quotes tests/library/calls; do
-    cc -std=c11 -Wall -Wextra -Werror -O2 -Iinclude -o "$work/$(basename $name)" $name.c "$archive" || { differs "$name.c does not compile"; exit 1; }
-done
+echo 'int main() { return 0; }' >"$work/none.c"
 cc -std=c11 -pedantic -Wall -Wextra -Werror -fsyntax-only -x c "$header" || differs "the header is not C11"
+tried cc -std=c11 tests/library/calls.c
 if command -v c++ >/dev/null; then
     c++ -std=c++11 -pedantic -Wall -Wextra -Werror -fsyntax-only -x c++ "$header" || differs "the header is not C++"
+    tried c++ -std=c++11 tests/library/vectors.cc
 fi
 
-expect 0 "$work/calls"
-
+compiled quotes cc -std=c11 examples/quotes.c
 expect 0 "$work/quotes" samples/capture >"$work/out"
 cmp "$work/out" tests/library/quotes || differs "the quotes of samples/capture are printed otherwise"
 for name in listing messages gaps; do
@@ -51,8 +67,11 @@ for name in listing messages gaps; do
     expect 0 "$work/quotes" $line >"$work/out"
     cmp "$work/out" "$work/expected" || differs "the quotes of $line are printed otherwise"
 done
-expect 1 "$work/quotes" "$work/none" 2>"$work/said"
-grep -q "$work/none" "$work/said" || differs "a file that is not there is not named"
+expect 2 "$work/quotes" >"$work/out" 2>"$work/said"
+[ "$(cat "$work/said")" = "usage: quotes FILE" ] && [ ! -s "$work/out" ] || differs "without a file the usage is not all that is said"
+expect 2 "$work/quotes" samples/capture samples/capture 2>"$work/said"
+expect 1 "$work/quotes" "$work/missing" 2>"$work/said"
+grep -q "$work/missing" "$work/said" || differs "a file that is not there is not named"
 expect 1 "$work/quotes" / 2>"$work/said"
 
 ./trivsome --help | grep -q 'trivsome library' || differs "--help does not name the library"

@@ -1,0 +1,61 @@
+// Tries the calls of include/trivsome.h from C++, with vectors, an empty one among them, whose pointer may be null. Prints each
+// line that does not hold, and ends with status 1 if there was one.
+#include <vector>
+#include "common.h"
+
+using Bytes = std::vector<uint8_t>;
+
+// Nothing to read, and no room to write in: the pointer of an empty vector, and null.
+static void nothing(uint8_t *pointer)
+{
+    trivsome_notice notice = {};
+    trivsome_quote quote = {};
+    trivsome_prices prices = TRIVSOME_NO_PRICES;
+    trivsome_halt halt = {};
+    trivsome_tally tally = {};
+    HOLDS(trivsome_read(pointer, 0, 0) == 2);
+    HOLDS(trivsome_read_notice(pointer, 0, 0, &notice) == 2 && trivsome_read_quote(pointer, 0, 0, &quote) == 2);
+    HOLDS(trivsome_read_prices(pointer, 0, 0, &prices) == 2 && trivsome_read_halt(pointer, 0, 0, &halt) == 2);
+    HOLDS(trivsome_move(pointer, 0, 0, true) == 2 && trivsome_move(pointer, 0, 0, false) == 2);
+    HOLDS(trivsome_walk_line(&tally, pointer, 0, true) == 0 && tally.accepted == 0 && tally.waiting == 0);
+    HOLDS(trivsome_write_notice(&notice, pointer, 0) == 15 && trivsome_write_quote(&quote, pointer, 0) == 14);
+    HOLDS(trivsome_write_prices(&prices, pointer, 0) == 14 && trivsome_write_halt(&halt, pointer, 0) == 14);
+    memcpy(prices.slots[0].code, "2330  ", 6), prices.count = 1;
+    HOLDS(trivsome_write_prices(&prices, pointer, 0) == 15);
+    Bytes frame(14);
+    HOLDS(trivsome_write_notice_numbers(1, 9, pointer, 0, frame.data(), frame.size()) == outcome(0, 0, 14, 0));
+    HOLDS(frame == Bytes(NOTICE, NOTICE + 14));
+}
+
+// A message written into a vector, and read from it.
+static void there_and_back()
+{
+    Bytes frame(TRIVSOME_LONGEST);
+    trivsome_prices prices = TRIVSOME_NO_PRICES, again = TRIVSOME_NO_PRICES;
+    prices.seq = 7, prices.count = 1;
+    memcpy(prices.slots[0].code, "2330  ", 6);
+    prices.slots[0].time = TRIVSOME_NINES;
+    HOLDS(trivsome_write_prices(&prices, frame.data(), frame.size()) == outcome(0, 0, 374, 0));
+    uint64_t read = trivsome_read_prices(frame.data(), frame.size(), 0, &again);
+    HOLDS(trivsome_is_prices(read) && !trivsome_is_quote(read) && again.seq == 7 && again.count == 1);
+    HOLDS(memcmp(again.slots[0].code, "2330  ", 6) == 0 && memcmp(again.slots[9].code, "      ", 6) == 0);
+}
+
+static void ledger()
+{
+    trivsome_ledger ledger = {};
+    HOLDS(trivsome_is_new(trivsome_ledger_arrive(&ledger, 2)) && !trivsome_is_new(trivsome_ledger_arrive(&ledger, 2)));
+    HOLDS(trivsome_figure(trivsome_ledger_missing(&ledger)) == 1 && trivsome_last(trivsome_ledger_run(&ledger, 0)) == 1);
+    trivsome_ledger_clear(&ledger);
+    HOLDS(trivsome_ledger_heard(&ledger) == 0);
+}
+
+int main()
+{
+    Bytes empty;
+    nothing(empty.data());
+    nothing(nullptr);
+    there_and_back();
+    ledger();
+    return wrong;
+}
