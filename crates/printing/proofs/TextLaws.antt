@@ -85,6 +85,14 @@ puts-next text at i r q out mid after h p s =
     let grows : take (i + 1) text ≡ take i text ++ (getD text i 0 ∷ []) = rw add-one (take-suc text i 0 h) in
     rw grows (puts-then (take i text) (getD text i 0 ∷ []) at r q out mid after p s)
 
+-- the same where the byte finds room, and is stored
+pub puts-stored : (text : List ℕ) (at i : ℕ) (out mid : List ℕ) → i < length text → at + i < length mid → Puts (take i text) at out (at + i) mid
+    → Puts (take (i + 1) text) at out (at + (i + 1)) (set mid (at + i) (getD text i 0))
+puts-stored text at i out mid h room p =
+    let next : at + i + 1 ≡ at + (i + 1) = omega arith in
+    subst (λ (to : ℕ). Puts (take (i + 1) text) at out to (set mid (at + i) (getD text i 0))) next
+    (puts-next text at i (at + i) (at + i + 1) out mid (set mid (at + i) (getD text i 0)) h p (puts-byte (getD text i 0) (at + i) mid room))
+
 pub puts-none : (text : List ℕ) (at : ℕ) (out : List ℕ) → Puts (take 0 text) at out at out
 puts-none text at out = (omega arith, refl)
 

@@ -3,7 +3,7 @@ pub mod moving;
 
 ghost use mathlib.Core.Path.{_≡_};
 ghost use mathlib.Core.List.{[], _∷_};
-ghost use Prim.Native.Nat.{_≤_};
+ghost use Prim.Native.Nat.{_+_, _≤_};
 ghost use lib.ListN.{length, drop};
 ghost use Rattle.printing.specs.Text.{Puts, decimal, field};
 
@@ -18,8 +18,21 @@ pub fn put(out: &mut [u8], at: usize, b: u8) -> usize
     at
 }
 
-// Some bytes.
-pub fn put_all(out: &mut [u8], at: usize, text: &[u8]) -> usize
+// Some bytes that there is room for.
+fn put_whole(out: &mut [u8], at: usize, text: &[u8]) -> usize
+    requires { ⌜ at + length (now text) ≤ length (now out) ⌝ }
+    ensures { λ r. ⌜ Puts (now (text .entry)) at (now (out .entry)) r (now (out .exit)) ⌝ }
+{
+    let mut done = 0;
+    while done < text.len() {
+        out[at + done] = text[done];
+        done += 1;
+    }
+    at + done
+}
+
+// Some bytes, as far as there is room.
+fn put_part(out: &mut [u8], at: usize, text: &[u8]) -> usize
     ensures { λ r. ⌜ Puts (now (text .entry)) at (now (out .entry)) r (now (out .exit)) ⌝ }
 {
     let mut to = at;
@@ -29,6 +42,18 @@ pub fn put_all(out: &mut [u8], at: usize, text: &[u8]) -> usize
         i += 1;
     }
     to
+}
+
+// Some bytes.
+pub fn put_all(out: &mut [u8], at: usize, text: &[u8]) -> usize
+    ensures { λ r. ⌜ Puts (now (text .entry)) at (now (out .entry)) r (now (out .exit)) ⌝ }
+{
+    if at <= out.len() {
+        if text.len() <= out.len() - at {
+            return put_whole(out, at, text);
+        }
+    }
+    put_part(out, at, text)
 }
 
 // A number in decimal digits, without leading zeros.

@@ -1,4 +1,4 @@
--- `text::put_all` meets its contract: up to each turn the text's first bytes are put.
+-- `text::put_part` meets its contract: up to each turn the text's first bytes are put.
 use Prim.Native.Nat.{_-_}
 use mathlib.Core.Path.{ap, _∙_}
 use lib.ListN.{length, take}
@@ -6,8 +6,8 @@ use lib.Seq.{length-sets}
 use borrow.Author.Needs.{needs}
 use Rattle.printing.specs.Text.{Puts}
 use Rattle.printing.proofs.TextLaws.{puts-none, puts-next, puts-whole}
-use Rattle.printing.proofs.put_all.Statement.{statement}
-use Rattle.printing.proofs.put_all.Tie as tie
+use Rattle.printing.proofs.put_part.Statement.{statement}
+use Rattle.printing.proofs.put_part.Tie as tie
 
 abbrev Inv-loop : tie.InvT-loop
 Inv-loop out₀ at text to₀ i₀ out to i = Puts (take i text) at out₀ to out
@@ -50,8 +50,8 @@ returns c =
     let a = c .before .before .before .before .args in
     puts-whole (a .text .now) (a .at) (l .i) (l .to) (a .out .now) (l .out) (c .loop-test .left) (l .inv)
 
-pub put-all-spec : {M : Type 1} → statement M
-put-all-spec =
+pub put-part-spec : {M : Type 1} → statement M
+put-part-spec =
     tie.close
     (tie.spec
     Inv-loop
