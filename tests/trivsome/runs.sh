@@ -1,0 +1,88 @@
+#!/bin/sh
+# The programs as they are run: a file, a pipe that gives small pieces, a terminal's few bytes, a full disk, a folder for input,
+# a signal, and a name that is no program.
+set -u
+CDPATH='' cd -- "$(dirname -- "$0")" || exit 2
+part=runs
+# shellcheck source=tests/trivsome/common.sh
+. ./common.sh
+line=$(stored listing)/stdin
+
+for name in listing messages gaps numbers worked; do
+    expect 0 ./trivsome $name <"$(stored $name)/stdin" >"$work/file" 2>"$work/said"
+    cmp "$work/file" "$(stored $name)/stdout" || differs "$name prints something else"
+done
+
+listing() { ./trivsome listing 2>"$work/said"; }
+
+# pieces of 1 to 4,096 bytes
+head -c 70000 "$line" >"$work/part"
+listing <"$work/part" >"$work/whole"
+for size in 1 1021 4096; do
+    dd if="$work/part" bs=$size 2>/dev/null | listing >"$work/pipe"
+    cmp "$work/pipe" "$work/whole" || differs "pieces of $size bytes are listed otherwise"
+done
+
+printf '' | listing >"$work/empty"
+printf 'at,answer,bytes,format,seq\ntotal,0,0,0\n' | cmp - "$work/empty" || differs "no input is listed otherwise"
+
+expect 1 listing </ >"$work/none"
+grep -q total "$work/none" && differs "a total stands behind input that could not be read"
+
+# no room for the output, for what is said of it, and for temporary files. What cannot be said is still seen by the status
+if mount_small full 64k; then
+    echo "trivsome runs: on a full file system"
+    cat /dev/zero >"$work/full/zeros" 2>/dev/null
+else
+    echo "trivsome runs: no file system can be mounted here; /dev/full, and a folder for temporary files that cannot be written"
+    mkdir -p "$work/full" && ln -s /dev/full "$work/full/out" && ln -s /dev/full "$work/full/said" && chmod 555 "$work/full"
+fi
+for name in listing messages gaps; do
+    expect 1 env TMPDIR="$work/full" ./trivsome $name <"$(stored $name)/stdin" >"$work/full/out" 2>"$work/full/said"
+    expect 1 ./trivsome $name <"$(stored $name)/stdin" >"$work/full/out" 2>"$work/said"
+    says "$name: cannot write standard output" "$work/said"
+    expect 1 ./trivsome $name <"$(stored $name)/stdin" >"$work/full/out" 2>&-
+done
+
+# those whose standard input is our pipe
+readers() { for process in /proc/[0-9]*; do [ "$(readlink "$process/fd/0")" != "$work/pipe" ] || echo "${process#/proc/}"; done; }
+
+# a signal to the script is one to the program, and leaves nothing behind
+rm -f "$work/pipe"
+mkdir "$work/temporary" && mkfifo "$work/pipe" && exec 8<>"$work/pipe"
+for signal in TERM HUP; do
+    env TMPDIR="$work/temporary" ./trivsome listing <"$work/pipe" >"$work/file" 2>&1 8>&- &
+    script=$!
+    sleep 1
+    [ -n "$(readers)" ] || differs "nothing reads the pipe: $(cat "$work/file")"
+    kill -s $signal $script
+    sleep 1
+    for left in $(readers); do
+        differs "process $left is left after $signal"
+        kill -s KILL "$left"
+    done
+    [ -z "$(ls "$work/temporary")" ] || differs "$signal leaves $(ls "$work/temporary") behind"
+done
+exec 8>&-
+
+expect 2 ./trivsome nonsense </dev/null 2>"$work/said"
+says "no program is called 'nonsense'" "$work/said"
+expect 2 ./trivsome ../trivsome </dev/null 2>"$work/said"
+expect 2 ./trivsome library nonsense 2>"$work/said"
+expect 2 ./trivsome >"$work/none" 2>"$work/said"
+says '^Usage: ' "$work/said"
+[ ! -s "$work/none" ] || differs "without a name something is printed"
+for word in --help -h; do
+    expect 0 ./trivsome $word >"$work/help" 2>"$work/said"
+    says '^Usage: ' "$work/help"
+    [ ! -s "$work/said" ] || differs "$word says something on standard error"
+done
+
+# each program is in the help once, and before the tests' own
+for name in listing messages gaps; do
+    [ "$(sed '/tests/,$d' "$work/help" | grep -c "^  $name ")" -eq 1 ] || differs "--help does not name $name"
+done
+for name in numbers worked; do
+    ! sed '/tests/,$d' "$work/help" | grep -q "^  $name" || differs "--help has $name beside the programs"
+done
+ended
