@@ -5,9 +5,6 @@
 # hands to its clang are kept, and the same clang compiles them for the machine at hand. A program takes a C compiler, cc, to
 # link it then; where there is none it stays x86-64 code, under the kit's emulator.
 
-# the crates whose calls the library has
-calls="c_notices c_quotes c_prices c_halts c_walking c_ledger"
-
 # where to read why something failed
 why() { if [ -s "$log" ]; then echo "$log says why"; else echo "nothing could be logged"; fi; }
 

@@ -9,9 +9,14 @@ part=builds
 # shellcheck source=tests/trivsome/tree.sh
 . tests/trivsome/tree.sh
 
-# counts FILE NUMBER: how often rt ran, or compiled
-counts() { [ "$(wc -l <"$tree/$1")" -eq "$2" ] || differs "$(wc -l <"$tree/$1") lines instead of $2 in $1: $(cat "$tree/$1")"; }
+# how often rt ran or compiled since count_anew: so_often asks, counts holds it to a number
+count_anew() { true >"$tree/runs" && true >"$tree/compiled"; }
+so_often() { # FILE NUMBER
+    [ "$(wc -l <"$tree/$1")" -eq "$2" ]
+}
+counts() { so_often "$@" || differs "$(wc -l <"$tree/$1") lines instead of $2 in $1: $(cat "$tree/$1")"; }
 
+count_anew
 # both ways of making a program where the machine is not x86-64: as its own code, and without cc under the emulator
 # shellcheck disable=SC2031
 for path in "$work/bin" "$PATH"; do
@@ -38,23 +43,26 @@ done
 printf 'one\n%s\n' "$tree/target/native/echo" | cmp - "$work/file" || differs "CDPATH misleads the script: $(cat "$work/said")"
 
 # a source that is touched: rt runs again and has nothing to compile
+count_anew
 sleep 1
 touch "$tree/crates/program_echo/src/main.rt"
 expect 0 with_kit "$tree/trivsome" echo >"$work/file" 2>"$work/said"
-counts runs 3
-counts compiled 2
+counts runs 1
+counts compiled 0
 
 # a source that changes during the build is built at the next run
+count_anew
 program echo during
 with_kit env SLOW=2 "$tree/trivsome" echo >"$work/file" 2>"$work/said" &
-sleep 1
+soon so_often compiled 1
 program echo after
 wait
 expect 0 with_kit "$tree/trivsome" echo >"$work/file" 2>"$work/said"
 echo after | cmp - "$work/file" || differs "a source that changes during the build is not built: $(cat "$work/file")"
-counts compiled 4
+counts compiled 2
 
 # builds at once wait for each other, and say for whom; one of them builds
+count_anew
 program echo once
 for run in 1 2 3; do (with_kit env SLOW=3 "$tree/trivsome" echo >"$work/file$run" 2>"$work/said$run" || echo "status $?" >>"$work/file$run") & done
 (with_kit env SLOW=3 "$tree/trivsome" other >"$work/file4" 2>"$work/said4" || echo "status $?" >>"$work/file4") &
@@ -62,13 +70,14 @@ wait
 for run in 1 2 3; do echo once | cmp - "$work/file$run" || differs "of three builds at once one is wrong: $(cat "$work/file$run" "$work/said$run")"; done
 echo two | cmp - "$work/file4" || differs "a build beside others is wrong: $(cat "$work/file4" "$work/said4")"
 [ ! -f "$tree/beside" ] || differs "rt runs beside another: $(cat "$tree/beside")"
-counts compiled 6
+counts compiled 2
 [ "$(cat "$work"/said[1-4] | grep -c 'waiting for another build, process [0-9]')" -eq 3 ] || differs "not three wait: $(cat "$work"/said[1-4])"
 
 # a build that is killed holds up no other
+count_anew
 program echo killed
 with_kit env SLOW=60 "$tree/trivsome" echo >"$work/file" 2>"$work/said" &
-sleep 1
+soon so_often compiled 1
 kill -s KILL "$(cat "$tree/target/native/.lock")"
 for process in /proc/[0-9]*; do
     [ "$(readlink "$process/cwd")" != "$tree" ] || kill -s KILL "${process#/proc/}"

@@ -32,6 +32,16 @@ expect() {
 # says WORDS FILE: the file has the words
 says() { grep -q -e "$1" "$2" || differs "'$1' is not said, but: $(cat "$2")"; }
 
+# soon COMMAND..: the command succeeds within ten seconds
+soon() {
+    tries=0
+    until "$@"; do
+        tries=$((tries + 1))
+        [ $tries -lt 100 ] || return
+        sleep 0.1
+    done
+}
+
 # mount_small PLACE SIZE: a file system of its own at $work/PLACE, where that is allowed
 mount_small() {
     mkdir -p "$work/$1" && mount -t tmpfs -o "size=$2" none "$work/$1" 2>/dev/null && mounted="$mounted $1"

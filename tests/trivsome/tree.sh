@@ -40,7 +40,8 @@ touch "$tree/crates.txt"
 program echo one
 program other two
 
-# rt check CRATE as native/build and trivsome see it. Each run leaves a line in the file runs; one beside another, in beside.
+# rt check CRATE as native/build and trivsome see it. Each run leaves a line in the file runs, one
+# that compiles in compiled, and one beside another in beside.
 cat >"$work/kit/bin/rt" <<'END'
 #!/bin/sh
 set -u
@@ -50,7 +51,6 @@ if mkdir target/busy; then trap 'rmdir target/busy' EXIT; else echo "$crate" >>b
 echo "$crate" >>runs
 cksum <"crates/$crate/src/main.rt" >target/stamp.new
 if ! cmp -s target/stamp.new "target/stamp/$crate"; then
-    echo "$crate" >>compiled
     words='--target=x86_64-unknown-linux-gnu --no-default-config -O1 -fPIE -c'
     "$tools/bin/clang" $words -emit-llvm -x c "crates/$crate/src/main.rt" -o "target/$crate.module" || exit 1
     mv "target/$crate.module" "target/$crate.bc"
@@ -58,6 +58,7 @@ if ! cmp -s target/stamp.new "target/stamp/$crate"; then
     "$RATTLE_HOME/on/$(uname -m)/bin/rattle-link" --target x86_64-unknown-linux-gnu --toolchain "$tools" -o "target/bin/$crate" \
         "target/obj/$crate.o" || exit 1
     mv target/stamp.new "target/stamp/$crate"
+    echo "$crate" >>compiled
     sleep "${SLOW:-0}"
 fi
 END
