@@ -12,7 +12,7 @@ wrong=0 mounted=''
 
 cleared() {
     for place in $mounted; do umount "$work/$place"; done
-    rm -rf "$work"
+    chmod -R u+w "$work" && rm -rf "$work"
 }
 
 differs() {
