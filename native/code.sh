@@ -10,7 +10,8 @@ why() { if [ -s "$log" ]; then echo "$log says why"; else echo "nothing could be
 
 proved() { # COMMAND..: runs rt, which proves before it compiles
     echo "native/build: proving and compiling ${crate:-$name}" >&2
-    (cd "$here" && "$@") </dev/null >>"$log" 2>&1 || fail 1 "${crate:-$name} is not proved or could not be compiled (status $? of rt): $(why)"
+    (cd "$here" && "$@") </dev/null >>"$log" 2>&1 ||
+        fail 1 "${crate:-$name} is not proved or could not be compiled (status $? of rt): $(why)"
 }
 
 compiled() { # COMMAND..
@@ -79,7 +80,8 @@ make_program() {
 
 # status.c, to be linked beside the program's own objects
 status_object() { # MACHINE
-    compiled "$tools/bin/clang" --target="$1-unknown-linux-gnu" --no-default-config -O2 -fPIE -c "$here/native/status.c" -o "$work/status.o"
+    compiled "$tools/bin/clang" --target="$1-unknown-linux-gnu" --no-default-config -O2 -fPIE \
+        -c "$here/native/status.c" -o "$work/status.o"
 }
 
 # The modules are kept with rt's stamp of the sources that they were made of: while it stays the same there is nothing to prove.
@@ -89,7 +91,8 @@ program_of_modules() {
     shadow_kit
     proved env RATTLE_HOME="$shadow" rt check "$crate"
     if [ -n "$(ls "$work/modules")" ]; then
-        cp "$stamp" "$work/modules/stamp" && rm -rf "$kept" && mkdir -p "$native/modules" && mv "$work/modules" "$kept" || fail 3 "cannot write $kept"
+        cp "$stamp" "$work/modules/stamp" && rm -rf "$kept" && mkdir -p "$native/modules" && mv "$work/modules" "$kept" ||
+            fail 3 "cannot write $kept"
     fi
     objects -fPIE "$kept"
     status_object "$machine"
@@ -107,5 +110,6 @@ program_with_loader() {
     for part in "$tools"/lib/*.so.* "$tools/bin/qemu-x86_64"; do
         [ ! -f "$part" ] || cp "$part" "$work/x86_64/" || fail 3 "cannot write in $work"
     done
-    mkdir -p "$native/x86_64" && mv "$work"/x86_64/* "$native/x86_64/" && cp "$here/native/start" "$work/made" || fail 3 "cannot write in $native"
+    mkdir -p "$native/x86_64" && mv "$work"/x86_64/* "$native/x86_64/" && cp "$here/native/start" "$work/made" ||
+        fail 3 "cannot write in $native"
 }

@@ -25,7 +25,7 @@ for path in "$work/bin" "$PATH"; do
     printf '%s\n' one 'a b' '' '*' -x "it's" | cmp - "$work/file" || differs "arguments do not arrive: $(cat "$work/said")"
     expect 1 with_kit "$tree/trivsome" echo fail >"$work/file" 2>"$work/said"
     printf 'one\nfail\n' | cmp - "$work/said" || differs "what a program says on standard error is lost"
-    if [ "$path" = "$work/bin" ]; then cmp "$tree/native/start" "$tree/target/native/echo" || differs "without cc no x86-64 program is made"; fi
+    [ "$path" = "$PATH" ] || cmp "$tree/native/start" "$tree/target/native/echo" || differs "without cc no x86-64 program is made"
     # what is built and up to date needs no kit
     expect 0 without_kit "$tree/trivsome" echo >"$work/file"
     expect 3 without_kit "$tree/trivsome" other >"$work/file" 2>"$work/said"
@@ -39,7 +39,11 @@ for script in "$work/link" "$work/second"; do
     expect 0 with_kit "$script" echo >"$work/file" 2>"$work/said"
     echo one | cmp - "$work/file" || differs "a link to the script does not work: $(cat "$work/said")"
 done
-(cd "$work" && with_kit env CDPATH="$work" sh tree/trivsome echo && with_kit env CDPATH="$work" sh tree/native/build program echo) >"$work/file" 2>"$work/said"
+(
+    cd "$work" && CDPATH=$work && export CDPATH
+    with_kit sh 'a tree/trivsome' echo
+    with_kit sh 'a tree/native/build' program echo
+) >"$work/file" 2>"$work/said"
 printf 'one\n%s\n' "$tree/target/native/echo" | cmp - "$work/file" || differs "CDPATH misleads the script: $(cat "$work/said")"
 
 # a source that is touched: rt runs again and has nothing to compile
@@ -64,14 +68,16 @@ counts compiled 2
 # builds at once wait for each other, and say for whom; one of them builds
 count_anew
 program echo once
-for run in 1 2 3; do (with_kit env SLOW=3 "$tree/trivsome" echo >"$work/file$run" 2>"$work/said$run" || echo "status $?" >>"$work/file$run") & done
-(with_kit env SLOW=3 "$tree/trivsome" other >"$work/file4" 2>"$work/said4" || echo "status $?" >>"$work/file4") &
+slowly() { with_kit env SLOW=3 "$tree/trivsome" "$1" >"$work/file$2" 2>"$work/said$2" || echo "status $?" >>"$work/file$2"; } # NAME RUN
+for run in 1 2 3; do slowly echo $run & done
+slowly other 4 &
 wait
-for run in 1 2 3; do echo once | cmp - "$work/file$run" || differs "of three builds at once one is wrong: $(cat "$work/file$run" "$work/said$run")"; done
-echo two | cmp - "$work/file4" || differs "a build beside others is wrong: $(cat "$work/file4" "$work/said4")"
+printf 'once\nonce\nonce\ntwo\n' >"$work/expected"
+cat "$work"/file[1-4] | cmp - "$work/expected" || differs "of builds at once one is wrong: $(cat "$work"/file[1-4] "$work"/said[1-4])"
 [ ! -f "$tree/beside" ] || differs "rt runs beside another: $(cat "$tree/beside")"
 counts compiled 2
-[ "$(cat "$work"/said[1-4] | grep -c 'waiting for another build, process [0-9]')" -eq 3 ] || differs "not three wait: $(cat "$work"/said[1-4])"
+waiting=$(cat "$work"/said[1-4] | grep -c 'waiting for another build, process [0-9]')
+[ "$waiting" -eq 3 ] || differs "$waiting wait instead of 3: $(cat "$work"/said[1-4])"
 
 # a build that is killed holds up no other
 count_anew
@@ -107,7 +113,8 @@ else
 fi
 for target in '' target target/native; do
     rm -rf "$work/still/tree"
-    mkdir -p "$work/still/tree/$target" && cp -R "$tree/trivsome" "$tree/native" "$tree/crates" "$tree/crates.txt" "$work/still/tree/"
+    mkdir -p "$work/still/tree/$target"
+    for source in trivsome native crates crates.txt; do cp -R "$tree/$source" "$work/still/tree/"; done
     still
     expect 3 with_kit $as "$work/still/tree/trivsome" echo >"$work/file" 2>"$work/said"
     says "cannot write .*$work/still/tree/target" "$work/said"

@@ -37,7 +37,7 @@ library_of() { # FOLDER
         return
     fi
     words=$(PKG_CONFIG_PATH=$1/lib/pkgconfig pkg-config --cflags --libs trivsome) || differs "$1: pkg-config does not find it"
-    (cd "$work" && cp "$top/examples/quotes.c" . && eval "cc -std=c11 -O2 -o quotes quotes.c $words") || differs "$1: examples/quotes.c does not compile"
+    eval "cc -std=c11 -O2 -o '$work/quotes' examples/quotes.c $words" || differs "$1: examples/quotes.c does not compile"
     "$work/quotes" samples/capture | cmp - tests/library/quotes || differs "$1: the quotes of samples/capture are printed otherwise"
 }
 
@@ -74,9 +74,9 @@ rights_of "$work/plain"
 
 # a program that is not code of this machine's own takes along what runs it
 mkdir -p "$tree/bindings/rust" && cp -R include "$tree/" && cp bindings/rust/Cargo.toml "$tree/bindings/rust/"
-(PATH=$work/bin && with_kit "$tree/native/build" program echo && with_kit "$tree/native/build" program other) >"$work/file" 2>"$work/said"
-touch "$tree/target/native/libtrivsome.a"
-(PATH=$work/bin && with_kit "$tree/trivsome" install "$work/emulated") >"$work/file" 2>"$work/said" || differs "status $? without cc: $(cat "$work/said")"
+mkdir -p "$tree/target/native" && touch "$tree/target/native/libtrivsome.a"
+(PATH=$work/bin && with_kit "$tree/trivsome" install "$work/emulated") >"$work/file" 2>"$work/said" ||
+    differs "status $? without cc: $(cat "$work/said")"
 rights_of "$work/emulated"
 mv "$tree" "$work/gone" && rm -r "$work/kit"
 expect 0 without_kit nobody "$work/emulated/bin/trivsome" echo 'a b' >"$work/file" 2>"$work/said"

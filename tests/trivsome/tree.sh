@@ -2,7 +2,7 @@
 # A small tree of its own with the scripts of this one, to be sourced after common.sh: its two programs, echo and other, are
 # written in C, and its kit is the one at hand but for an rt that compiles C and proves nothing. So everything that stands
 # around a proof is tried in seconds.
-tree=$work/tree
+tree="$work/a tree"
 real=${RATTLE_HOME:-$(dirname "$(dirname "$(readlink -f "$(command -v rt)")")")}
 
 # with_kit and without_kit COMMAND..: with that kit in place of the one at hand, and with none
