@@ -83,11 +83,12 @@ for word in --help -h; do
     [ ! -s "$work/said" ] || differs "$word says something on standard error"
 done
 
-# each program is in the help once, and before the tests' own
+# each program is in the help once; those of the tests are behind, by name alone
 for name in listing messages gaps; do
     [ "$(sed '/tests/,$d' "$work/help" | grep -c "^  $name ")" -eq 1 ] || differs "--help does not name $name"
 done
 for name in numbers worked; do
     ! sed '/tests/,$d' "$work/help" | grep -q "^  $name" || differs "--help has $name beside the programs"
+    grep -qx "  $name" "$work/help" || differs "--help promises something of $name"
 done
 ended
