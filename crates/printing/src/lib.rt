@@ -60,6 +60,9 @@ pub fn put_all(out: &mut [u8], at: usize, text: &[u8]) -> usize
 pub fn put_number(out: &mut [u8], at: usize, n: u64) -> usize
     ensures { λ r. ⌜ Puts (decimal n) at (now (out .entry)) r (now (out .exit)) ⌝ }
 {
+    if n <= 9 {
+        return put(out, at, 48 + (n % 10) as u8);
+    }
     let mut digits = twenty();
     let first = spell(n, &mut digits);
     put_all(out, at, &digits[first..])
