@@ -48,8 +48,15 @@ quick_tests() {
 
 # once all is proved: the programs and the library as their users do, and the second program
 user_tests() {
-    programs=$(for main in crates/*/src/main.rt; do printf '%s/|' "${main%/src/main.rt}"; done)
-    test_on "${programs}trivsome|tests/trivsome/|tests/reference/" "trivsome runs, and fails loudly" sh tests/trivsome/try.sh
+    export TRIVSOME_EMULATED=yes # rt has just made the programs
+    programs="crates/stock_feed/|$(for main in crates/*/src/main.rt; do printf '%s/|' "${main%/src/main.rt}"; done)"
+    test_on "${programs}trivsome|native/|include/|examples/|samples/|bindings/rust/Cargo|tests/trivsome/|tests/reference/" \
+        "trivsome runs, and fails loudly" sh tests/trivsome/try.sh
+    test_on "${programs}trivsome|samples/|tests/live/|tests/listing/|tests/messages/|tests/reference/" \
+        "a line that stays open is shown as it comes" python3 tests/live/try.py
+    test_on "${programs}trivsome|tests/live/|tests/reference/" "the test programs say what they cannot do" python3 tests/live/bounded.py
+    test_on "${programs}trivsome|README.md|samples/|include/|examples/|tests/readme/|tests/messages/|tests/reference/" \
+        "the lines of README work" python3 tests/readme/try.py
     test_on 'crates/c_|include/|native/|examples/|samples/|tests/library/|tests/reference/' "the library is used from C" sh tests/library/try.sh
     test_on 'second/|compare/|bindings/|bench/|tests/rust/' "the Rust packages are laid out, and clippy has nothing to say" sh tests/rust/try.sh
     test_on 'second/' "the second program passes its own tests" cargo_test second

@@ -50,8 +50,9 @@ def described():
 
 
 def built(*command):
-    """Runs a command that builds, and gives the last line that it prints."""
-    made = subprocess.run([str(word) for word in command], cwd=ROOT, stdout=subprocess.PIPE, text=True)
+    """Runs a command that builds code of this machine, and gives the last line that it prints."""
+    own = {name: value for name, value in os.environ.items() if name != "TRIVSOME_EMULATED"}
+    made = subprocess.run([str(word) for word in command], cwd=ROOT, env=own, stdout=subprocess.PIPE, text=True)
     if made.returncode:
         sys.exit(f"bench: could not be built: {' '.join(str(word) for word in command)}")
     return made.stdout.strip().rpartition("\n")[2]

@@ -75,7 +75,7 @@ library_of_modules() {
 }
 
 make_program() {
-    if [ "$machine" != x86_64 ] && command -v cc >/dev/null; then program_of_modules; else program_with_loader; fi
+    if [ "$machine" != x86_64 ] && ! emulated && command -v cc >/dev/null; then program_of_modules; else program_with_loader; fi
 }
 
 # status.c, to be linked beside the program's own objects
@@ -110,6 +110,6 @@ program_with_loader() {
     for part in "$tools"/lib/*.so.* "$tools/bin/qemu-x86_64"; do
         [ ! -f "$part" ] || cp "$part" "$work/x86_64/" || fail 3 "cannot write in $work"
     done
-    mkdir -p "$native/x86_64" && mv "$work"/x86_64/* "$native/x86_64/" && cp "$here/native/start" "$work/made" ||
-        fail 3 "cannot write in $native"
+    mkdir -p "${made%/*}/x86_64" && mv "$work"/x86_64/* "${made%/*}/x86_64/" && cp "$here/native/start" "$work/made" ||
+        fail 3 "cannot write in ${made%/*}"
 }

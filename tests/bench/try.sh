@@ -2,7 +2,7 @@
 # Tries the timing of the calls: that it builds, finds both sides the same, ends with 0, and prints a ratio for everything that
 # it is to time. How fast either side is, is not judged. Prints what is missing, and ends with status 1 if anything is.
 set -u
-cd "$(dirname "$0")/../.." || exit 2
+CDPATH='' cd -- "$(dirname -- "$0")/../.." || exit 2
 work=$(mktemp -d) || exit 2
 trap 'rm -rf "$work"' EXIT
 wrong=0

@@ -3,7 +3,7 @@
 # and compares what the example prints with what a program in Python makes of the same files. Prints what differs, and ends with
 # status 1 if anything did.
 set -u
-cd "$(dirname "$0")/../.." || exit 2
+CDPATH='' cd -- "$(dirname -- "$0")/../.." || exit 2
 work=$(mktemp -d) || exit 2
 trap 'rm -rf "$work"' EXIT
 wrong=0

@@ -3,7 +3,7 @@
 # to say of it. Neither links, so no archive of the proved library is built for it. Prints what is wrong, and ends with status 1 if
 # anything is.
 set -u
-cd "$(dirname "$0")/../.." || exit 2
+CDPATH='' cd -- "$(dirname -- "$0")/../.." || exit 2
 wrong=0
 
 differs() {

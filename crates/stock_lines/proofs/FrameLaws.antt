@@ -1,28 +1,24 @@
 -- The next frame of a line from a place on: what it is at each kind of place, and that it stays the same further on.
 use Prim.Native.Nat.{ℕ, zero, suc, _+_, _≤_, _<_}
 use mathlib.Core.Path.{_≡_, refl, sym, ap, _∙_, subst}
-use mathlib.Core.Bool.{Bool, true, false, cond, not, _||_, _&&_}
-use mathlib.Core.List.{List, [], _∷_, _++_}
+use mathlib.Core.Bool.{Bool, true, false, cond}
+use mathlib.Core.List.{List}
 use native.Mathlib.Omega.{arith}
-use lib.ListN.{length, getD, drop, length-drop}
+use lib.ListN.{length, getD, drop}
 use lib.Seq.{getD-drop}
 use lib.Dec.{eqb, leb}
-use borrow.Author.Tests.{eqb-true, eqb-false, eq-eqb, ne-eqb, leb-true, leb-false}
-use Rattle.digits.proofs.TestLaws.{holds}
-use Rattle.layout.proofs.CheckLaws.{silent, silent-answers}
-use Rattle.answers.specs.Answers.{answerNumber}
+use borrow.Author.Tests.{eqb-false, eq-eqb, ne-eqb, leb-true, leb-false}
 use Rattle.answers.specs.declared.Answer.{Answer}
 use Rattle.answers.specs.declared.Answer.the-variants.{NoFrame}
-use Rattle.stock_frame.specs.Outline.{own, body, business, format, version, outlineOf}
-use Rattle.stock_frame.specs.Format.{bodyChecks}
+use Rattle.stock_frame.specs.Outline.{outlineOf}
 use Rattle.stock_frame.specs.declared.head.Head.{Head}
 use Rattle.stock_frame.specs.declared.head.Outline.{Outline}
 use Rattle.stock_frame.specs.declared.head.Outline.the-variants.{Whole, Not}
+use Rattle.stock_frame.proofs.OutlineLaws.{length-own, least-length}
 use Rattle.stock_frame.proofs.OutlineSteps.{check-first}
 use Rattle.stock_frame.proofs.PartLaws.{whole-outlined}
-use Rattle.stock_reading.specs.Reading.{formatOf, kindChecks, answerOf}
-use Rattle.stock_reading.proofs.ReadingLaws.{checks-outlined, answer-not}
-use Rattle.stock_reading.proofs.Trips.{answer-number}
+use Rattle.stock_reading.specs.Reading.{answerOf}
+use Rattle.stock_reading.proofs.ReadingLaws.{answer-not}
 use Rattle.walk.specs.Walk.{Move, walkFrom}
 use Rattle.walk.specs.Answers.{pastOf}
 use Rattle.walk.specs.Noise.{noiseLength}
@@ -36,14 +32,13 @@ use Rattle.stock_lines.specs.declared.frames.Met.the-variants.{Whole as 
 use Rattle.stock_lines.specs.declared.frames.Ahead.{Ahead}
 use Rattle.stock_lines.specs.declared.frames.Ahead.the-variants.{Frame, Nothing}
 use Rattle.stock_lines.proofs.LineLaws.{sound-answers}
+use Rattle.stock_lines.proofs.FrameTheorems.{whole-past}
 
--- behind a whole outline no check answers 2, so that a walk moves there
-whole-not-two : (t : List ℕ) (h : Head) → outlineOf t ≡ Whole h → answerNumber (answerOf t) ≡ 2 → ⊥
-whole-not-two t h e two =
-    let o = whole-outlined t h e .0 in
-    let f = own t in
-    let z = silent-answers 2 (kindChecks (business f) (format f) (version f) ++ bodyChecks (formatOf (format f)) (body f)) refl (sym (checks-outlined t o) ∙ sym (answer-number t) ∙ two) in
-    omega (arith, z)
+-- a walk moves at a whole outline
+whole-moves : (c : Bool) (t : List ℕ) (h : Head) → outlineOf t ≡ Whole h → pastOf c (answerOf t) ≡ 0 → ⊥
+whole-moves c t h e z =
+    let w = whole-outlined t h e in
+    omega (arith, z, whole-past t h e c, ap (λ (x : Head). x .length) (w .1), length-own t (w .0), least-length t (w .0))
 
 module _ (c : Bool) (line : List ℕ) where
   pub frame-ends : (at : ℕ) → length line ≤ at → Nothing at ≡ nextFrame c at line
@@ -53,18 +48,13 @@ module _ (c : Bool) (line : List ℕ) where
     abbrev t : List ℕ
     t = drop at line
 
-    stops-two : pastOf c (answerOf t) ≡ 0 → answerNumber (answerOf t) ≡ 2
-    stops-two e =
-        let s = past-stops answerOf longest sound-answers c t (some-left answerOf longest sound-answers c line at h) e in
-        eqb-true (answerNumber (answerOf t)) 2 (holds (eqb (answerNumber (answerOf t)) 2 ∷ (not c || eqb (length t) 0) ∷ []) s 0)
-
     -- one move more
     frame-turn : (pastOf c (answerOf t) ≡ 0 → ⊥) → nextFrame c at line ≡ onOutline (outlineOf t) at (nextFrame c (at + pastOf c (answerOf t)) line)
     frame-turn e = ap (λ (ms : List (Move Answer)). aheadOf line ms at) (walk-turn answerOf longest sound-answers c line at at h e .0)
 
     pub frame-here : (w : Head) → outlineOf t ≡ Whole w → Frame w at ≡ nextFrame c at line
     frame-here w e =
-        sym (frame-turn (λ z. whole-not-two t w e (stops-two z))
+        sym (frame-turn (whole-moves c t w e)
         ∙ ap (λ (o : Outline). onOutline o at (nextFrame c (at + pastOf c (answerOf t)) line)) e)
 
     module _ (a : Answer) (e : outlineOf t ≡ Not a) (n : ℕ) (p : n ≡ pastOf c a) where

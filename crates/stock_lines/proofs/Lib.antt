@@ -3,5 +3,6 @@ pub mod LineLaws
 pub mod LineTheorems
 pub mod TurnLaws
 pub mod FrameLaws
+pub mod FrameTheorems
 pub mod Determined
 pub mod DeterminedTally
