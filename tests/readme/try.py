@@ -16,6 +16,7 @@ import shlex
 import shutil
 import subprocess
 import sys
+import tempfile
 import time
 
 sys.path.append(str(pathlib.Path(__file__).resolve().parents[1]))
@@ -36,7 +37,8 @@ class Line:
 
 MESSAGES = "./trivsome messages < samples/capture"
 LINES = [
-    Line(MESSAGES + "  ", r'"code":"0050  "'),
+    Line(MESSAGES + "  ", r'"code":"0050  "', seconds=started.BUILT),
+    Line("./trivsome install ~/trivsome  ", r"^installed in \S+/trivsome: ", seconds=started.BUILT),
     Line(MESSAGES + " | python3 -c 'import pandas, sys; print(", r"(?m)^\d+ +6 +8 +0050 +09:00:06\.000000$", ("pandas",)),
     Line(MESSAGES + " | python3 -c 'import pandas, sys; m = ", r"(?m)^\d+ +132\.5000 +59 +8 +0050 +09:00:06\.000000$", ("pandas",)),
     Line(MESSAGES + " | python3 -c 'import json, sys;", r"(?m)^Trading opens at 09:00\n今日上午九時開始交易$"),
@@ -90,8 +92,8 @@ def prepared(line, needs):
 # ---------------------------------------------------------------------------------------------------------------------
 # The tests.
 
-def runs_as_told(line, wanted):
-    with started.Started(["sh", "-c", line]) as shell:
+def runs_as_told(line, wanted, home):
+    with started.Started(["env", f"HOME={home}", "sh", "-c", line]) as shell:
         status = shell.ends(wanted.seconds)
         out, said = shell.out.decode("utf-8", "replace"), shell.err.decode("utf-8", "replace")
     if status != 0:
@@ -134,7 +136,11 @@ def goes_on(line):
 
 
 def main():
-    lines = page_lines()
+    with tempfile.TemporaryDirectory() as home:
+        return try_all(page_lines(), home)
+
+
+def try_all(lines, home):
     tried = []
     for wanted in [*LINES, LIVE]:
         line = found(lines, wanted)
@@ -143,7 +149,7 @@ def main():
         if line and wanted is LIVE:
             goes_on(line)
         elif line:
-            runs_as_told(line, wanted)
+            runs_as_told(line, wanted, home)
     for line in lines:
         if line.startswith(("./trivsome", "socat")) and line not in tried:
             faults.differs(f"not tried: {line}")
