@@ -1,4 +1,4 @@
-"""The listing: the proved program and the second one on whole lines, from a file to a file."""
+"""Programs on whole lines, from a file to a file: the proved ones and the second program's."""
 
 import filecmp
 import pathlib
@@ -12,10 +12,7 @@ import machine
 
 WORK = machine.ROOT / "target" / "bench"
 MB = 10 ** 6
-
-
-def build():
-    return machine.built(machine.ROOT / "native" / "build", "program", "listing"), machine.cargo("second", "listing")
+NAMES = "listing", "messages", "gaps"
 
 
 # ---------------------------------------------------------------------------------------------------------------------
@@ -36,14 +33,15 @@ def quote(seq, chance):
     return b"\x1b" + inner + bytes([check]) + b"\r\n"
 
 
-def lines(quick):
-    """Name, what is repeated, and how many bytes of it."""
+def lines(quick, most):
+    """Name, what is repeated, and how many bytes of it, for good frames some MB at most."""
     chance = random.Random(1)
     good = b"".join(quote(seq, chance) for seq in range(1, 2001 if quick else 20001))
     # 27s that each claim about a thousand bytes up to a right end, so that each check byte is worked out
     false_frames = b"".join(b"\x1b" + packed(1024 - 3 * n, 4) for n in range(10)) + b"\r\n"
     for size in [1, 10] if quick else [1, 10, 100, 200, 1000]:
-        yield "good frames of 113 bytes", good, size * MB
+        if size <= most:
+            yield "good frames of 113 bytes", good, size * MB
     size = (2 if quick else 20) * MB
     yield "noise without a 27", bytes(range(28, 255)), size
     yield "all 27s", b"\x1b", size
@@ -86,7 +84,7 @@ def one(programs, name, line, rounds):
     turn = lambda: [timed(program, line, output) for program, output in zip(programs, outputs)]
     turn()
     if not filecmp.cmp(*outputs, shallow=False):
-        sys.exit(f"bench: the listings of {name} differ: {outputs[0]} and {outputs[1]}")
+        sys.exit(f"bench: the outputs for {name} differ: {outputs[0]} and {outputs[1]}")
     rows = [turn() for _ in range(rounds)]
     proved, second = map(min, zip(*rows))
     length = line.stat().st_size
@@ -94,19 +92,29 @@ def one(programs, name, line, rounds):
           + "".join(f" {memory(program, line):>9}" for program in programs))
 
 
-def run(programs, quick):
-    WORK.mkdir(parents=True, exist_ok=True)
-    print("listing: a line in a file, listed into a file")
-    print(f"  {'':32} {'MB':>6} {'proved s':>9} {'second s':>9} {'ratio':>6} {'MB/s':>7} {'ns/byte':>8} {'memory':>9} {'second':>9}")
-    line = WORK / "line"
-    try:
-        for name, block, size in lines(quick):
-            if shutil.disk_usage(WORK).free < 3 * size + 1000 * MB:
-                print(f"  {name:32} {size / MB:6.0f} left out: the disk has no room for it")
-                continue
-            write(line, block, size)
-            one(programs, name, line, 3 if quick or size >= 500 * MB else 5)
-    finally:
-        line.unlink(missing_ok=True)
-    for output in ("proved", "second"):
-        (WORK / output).unlink(missing_ok=True)
+class Program:
+    """A program by its name."""
+
+    def __init__(self, name):
+        self.name = name
+        self.most = 1000 if name == "listing" else 100  # messages prints five times what it reads
+
+    def build(self):
+        return machine.built(machine.ROOT / "native" / "build", "program", self.name), machine.cargo("second", self.name)
+
+    def run(self, programs, quick):
+        WORK.mkdir(parents=True, exist_ok=True)
+        print(f"{self.name}: a line in a file, what is printed into a file")
+        print(f"  {'':32} {'MB':>6} {'proved s':>9} {'second s':>9} {'ratio':>6} {'MB/s':>7} {'ns/byte':>8} {'memory':>9} {'second':>9}")
+        line = WORK / "line"
+        try:
+            for name, block, size in lines(quick, self.most):
+                if shutil.disk_usage(WORK).free < 12 * size + 1000 * MB:
+                    print(f"  {name:32} {size / MB:6.0f} left out: the disk has no room for it")
+                    continue
+                write(line, block, size)
+                one(programs, name, line, 3 if quick or size >= 500 * MB else 5)
+        finally:
+            line.unlink(missing_ok=True)
+        for output in ("proved", "second"):
+            (WORK / output).unlink(missing_ok=True)

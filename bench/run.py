@@ -1,13 +1,14 @@
 #!/usr/bin/env python3
-"""Times the proved library and program beside the second program's, in one run on this machine, and prints tables.
+"""Times the proved library and programs beside the second program's, in one run on this machine, and prints tables.
 
-run.py [--quick] [calls | listing]
+run.py [--quick] [calls | listing | messages | gaps]
 
 calls     reading and writing of each format, arrivals at a ledger, and a line walked, call by call
-listing   the programs on whole lines: good frames of growing length, and the worst lines
+listing, messages, gaps
+          the programs on whole lines: good frames of growing length, and the worst lines
 --quick   smaller and fewer, done in seconds once all is built
 
-Before anything is timed both sides' answers, messages and listings are compared; a difference ends the run with status 1. The
+Before anything is timed both sides' answers, messages and outputs are compared; a difference ends the run with status 1. The
 proved side is code of this machine, as native/build makes it.
 """
 
@@ -22,10 +23,11 @@ import machine
 def main():
     wanted = argparse.ArgumentParser(description=__doc__, formatter_class=argparse.RawDescriptionHelpFormatter)
     wanted.add_argument("--quick", action="store_true")
-    wanted.add_argument("part", nargs="?", choices=["calls", "listing"])
+    wanted.add_argument("part", nargs="?", choices=["calls", *line_times.NAMES])
     wanted = wanted.parse_args()
     sys.stdout.reconfigure(line_buffering=True)
-    parts = [part for name, part in (("calls", call_times), ("listing", line_times)) if wanted.part in (None, name)]
+    parts = {"calls": call_times, **{name: line_times.Program(name) for name in line_times.NAMES}}
+    parts = [part for name, part in parts.items() if wanted.part in (None, name)]
     made = [part.build() for part in parts]
     print(machine.described())
     for part, programs in zip(parts, made):
