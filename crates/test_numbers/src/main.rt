@@ -1,19 +1,21 @@
-// Reads lines of at most 65,536 bytes. A number on a line arrives, and its answer is printed; at an empty line and at the end
+// Reads lines, 65,536 bytes at most. A number on a line arrives, and its answer is printed; at an empty line and at the end
 // stands what the ledger tells, and it is cleared. Numbers with spaces between are the ends of a record of their own, which is
 // lent to every call. tests/numbers/make.py makes the input.
-use ledger::Arrival;
-use ledger::Figure;
+mod lines;
+mod streams;
+
 use ledger::Ledger;
-use ledger::RunAt;
 use ledger::clear;
 use ledger_arrivals::arrive;
-use ledger_figures::heard;
-use ledger_figures::highest;
-use ledger_figures::missing;
-use ledger_figures::run;
-use ledger_figures::runs;
-use libc::STDIN_FILENO;
-use libc::STDOUT_FILENO;
+use libc::STDERR_FILENO;
+use lines::put_arrival;
+use lines::put_ledger;
+use lines::put_lent;
+use streams::Input;
+use streams::MOST;
+use streams::MUCH;
+use streams::read_all;
+use streams::written;
 
 // The ledger, and the line so far: the ends of a record and how many they are, then a number, if it has a digit.
 struct State {
@@ -22,96 +24,12 @@ struct State {
     count: usize,
     started: bool,
     number: u32,
-}
-
-fn say(text: &[u8]) {
-    io::write_all(STDOUT_FILENO, text);
-}
-
-fn say_number(n: u32) {
-    let mut digits = [0u8; 20];
-    let k = io::decimal(n as u64, &mut digits);
-    say(&digits[..k]);
-}
-
-fn say_refusal(n: u8) {
-    say(b" ");
-    say_number(n as u32);
-}
-
-fn say_answer(answer: Arrival) {
-    match answer {
-        Arrival::New => say(b" new"),
-        Arrival::Repeat => say(b" repeat"),
-        Arrival::Refused(n) => say_refusal(n),
-    }
-}
-
-fn say_figure(name: &[u8], figure: Figure) {
-    say(name);
-    match figure {
-        Figure::Is(n) => {
-            say(b" ");
-            say_number(n);
-        }
-        Figure::Refused(n) => say_refusal(n),
-    }
-}
-
-fn say_run(place: u32, found: RunAt) {
-    say(b"run ");
-    say_number(place);
-    match found {
-        RunAt::Run(first, last) => {
-            say(b" ");
-            say_number(first);
-            say(b"-");
-            say_number(last);
-        }
-        RunAt::Refused(n) => say_refusal(n),
-    }
-    say(b"\n");
-}
-
-fn count_of(figure: Figure) -> u32 {
-    match figure {
-        Figure::Is(n) => n,
-        Figure::Refused(_) => 0,
-    }
-}
-
-// Every run, and that there is none behind the last.
-fn say_runs(ledger: Ledger) {
-    let count = count_of(runs(ledger));
-    let mut place: u32 = 0;
-    while place < count {
-        say_run(place, run(ledger, place));
-        place += 1;
-    }
-    say_run(count, run(ledger, count));
-}
-
-fn say_ledger(ledger: Ledger) {
-    say_figure(b"highest", highest(ledger));
-    say_figure(b" heard", heard(ledger));
-    say_figure(b" missing", missing(ledger));
-    say_figure(b" runs", runs(ledger));
-    say(b"\n");
-    say_runs(ledger);
-}
-
-// What the calls answer to a record, the arrival of 3 first.
-fn say_lent(record: Ledger) {
-    let arrived = arrive(record, 3);
-    let answer = arrived.answer;
-    say(b"lent");
-    say_answer(answer);
-    say(b"\n");
-    say_ledger(record);
+    // how many bytes of text wait in the output buffer
+    to: usize,
 }
 
 // A new line.
-fn line(ledger: Ledger) -> State {
+fn line(ledger: Ledger, to: usize) -> State {
     let record = clear();
     State {
         ledger,
@@ -119,6 +37,7 @@ fn line(ledger: Ledger) -> State {
         count: 0,
         started: false,
         number: 0,
+        to,
     }
 }
 
@@ -137,28 +56,27 @@ fn end_number(state: State) -> State {
         count: at + 1,
         started: false,
         number: 0,
+        to: state.to,
     }
 }
 
-fn end_line(state: State) -> State {
+fn end_line(out: &mut [u8], state: State) -> State {
     let before = state.ledger;
     if state.count != 0 {
         let ended = end_number(state);
         let record = ended.record;
-        say_lent(record);
-        return line(before);
+        let to = put_lent(out, state.to, record);
+        return line(before, to);
     }
     if !state.started {
-        say_ledger(before);
-        return line(clear());
+        let to = put_ledger(out, state.to, before);
+        return line(clear(), to);
     }
     let arrived = arrive(before, state.number);
     let ledger = arrived.ledger;
     let answer = arrived.answer;
-    say_number(state.number);
-    say_answer(answer);
-    say(b"\n");
-    line(ledger)
+    let to = put_arrival(out, state.to, state.number, answer);
+    line(ledger, to)
 }
 
 // A digit more, up to nine of them.
@@ -174,12 +92,13 @@ fn add_digit(state: State, digit: u8) -> State {
         count: state.count,
         started: true,
         number: state.number * 10 + (digit as u32),
+        to: state.to,
     }
 }
 
-fn take_byte(state: State, b: u8) -> State {
+fn take_byte(out: &mut [u8], state: State, b: u8) -> State {
     if b == b'\n' {
-        return end_line(state);
+        return end_line(out, state);
     }
     if b == b' ' {
         return end_number(state);
@@ -193,19 +112,48 @@ fn take_byte(state: State, b: u8) -> State {
     add_digit(state, b - 48)
 }
 
-fn take_all(input: &[u8]) {
-    let mut state = line(clear());
+// Answers whether standard output took all the text.
+fn take_all(input: &[u8], out: &mut [u8]) -> bool {
+    let mut state = line(clear(), 0);
     let mut i = 0;
     while i < input.len() {
-        state = take_byte(state, input[i]);
+        state = take_byte(out, state, input[i]);
+        if MUCH <= state.to {
+            if !written(out, state.to) {
+                return false;
+            }
+            state.to = 0;
+        }
         i += 1;
     }
     let ledger = state.ledger;
-    say_ledger(ledger);
+    let to = put_ledger(out, state.to, ledger);
+    written(out, to)
+}
+
+fn say(text: &[u8]) {
+    io::write_all(STDERR_FILENO, text);
+}
+
+// Takes the first n bytes, unless they are too many.
+fn take(input: &[u8], n: usize, out: &mut [u8]) {
+    if MOST < n {
+        say(b"numbers: more than 65,536 bytes\n");
+        return;
+    }
+    if n <= input.len() {
+        if !take_all(&input[0..n], out) {
+            say(b"numbers: cannot write standard output\n");
+        }
+    }
 }
 
 fn main() {
-    let mut input = io::large_buffer();
-    let n = io::read_full(STDIN_FILENO, &mut input);
-    take_all(&input[..n]);
+    let mut input = [0u8; 65537];
+    let mut out = io::large_buffer();
+    let read = read_all(&mut input);
+    match read {
+        Input::Bytes(n) => take(&input, n, &mut out),
+        Input::Failed => say(b"numbers: cannot read standard input\n"),
+    }
 }

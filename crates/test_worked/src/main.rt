@@ -1,13 +1,13 @@
 // Reads frames, each behind two bytes of its length, and prints a line for each: its message, or the answer that refuses it.
-// The input is the exchange's own worked examples, 65,536 bytes at most; tests/worked/make.py makes it.
+// The input is the exchange's own worked examples, which tests/worked/make.py makes, or another of 65,536 bytes at most.
 ghost use Prim.Native.Nat.{_≤_};
 
 mod forms;
 mod lines;
+mod streams;
 
 use answers::Answer;
-use libc::STDIN_FILENO;
-use libc::STDOUT_FILENO;
+use libc::STDERR_FILENO;
 use printing::put;
 use printing::put_all;
 use printing::put_number;
@@ -16,6 +16,11 @@ use stock_reading::reading::read_halt;
 use stock_reading::reading::read_notice;
 use stock_reading::reading::read_prices;
 use stock_reading::reading::read_quote;
+use streams::Input;
+use streams::MOST;
+use streams::MUCH;
+use streams::read_all;
+use streams::written;
 
 // The message of an accepted frame.
 fn put_message(frame: &[u8], format: u8, out: &mut [u8], at: usize) -> usize {
@@ -74,8 +79,8 @@ fn end_of(start: usize, length: usize, n: usize) -> usize
     n
 }
 
-// A line for each record.
-fn put_records(input: &[u8], out: &mut [u8]) -> usize {
+// A line for each record. Answers whether standard output took them all.
+fn put_records(input: &[u8], out: &mut [u8]) -> bool {
     let mut to = 0;
     let mut at = 0;
     while at + 2 <= input.len() {
@@ -84,21 +89,40 @@ fn put_records(input: &[u8], out: &mut [u8]) -> usize {
         let end = end_of(start, length, input.len());
         to = put_reading(&input[start..end], out, to);
         to = put(out, to, b'\n');
+        if MUCH <= to {
+            if !written(out, to) {
+                return false;
+            }
+            to = 0;
+        }
         at = end;
     }
-    to
+    written(out, to)
 }
 
-fn print(out: &[u8], n: usize) {
-    if n <= out.len() {
-        io::write_all(STDOUT_FILENO, &out[0..n]);
+fn say(text: &[u8]) {
+    io::write_all(STDERR_FILENO, text);
+}
+
+// Prints what the first n bytes are, unless they are too many.
+fn print(input: &[u8], n: usize, out: &mut [u8]) {
+    if MOST < n {
+        say(b"worked: more than 65,536 bytes\n");
+        return;
+    }
+    if n <= input.len() {
+        if !put_records(&input[0..n], out) {
+            say(b"worked: cannot write standard output\n");
+        }
     }
 }
 
 fn main() {
-    let mut input = io::large_buffer();
-    let n = io::read_full(STDIN_FILENO, &mut input);
+    let mut input = [0u8; 65537];
     let mut out = io::large_buffer();
-    let k = put_records(&input[..n], &mut out);
-    print(&out, k);
+    let read = read_all(&mut input);
+    match read {
+        Input::Bytes(n) => print(&input, n, &mut out),
+        Input::Failed => say(b"worked: cannot read standard input\n"),
+    }
 }

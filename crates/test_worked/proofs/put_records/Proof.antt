@@ -1,4 +1,4 @@
--- `worked::put_records` is safe and ends: the place stays within the input, the buffer keeps its length, and each turn leaves fewer bytes of the input.
+-- `worked::put_records` is safe and ends: the buffer keeps its length, and each turn leaves fewer bytes of the input.
 use Prim.Native.Nat.{_-_, _≤_}
 use mathlib.Core.Path.{_≡_}
 use lib.ListN.{length}
@@ -51,17 +51,35 @@ put-reading-requires c κs = search needs
 put-requires : tie.Need-put-requires Inv-loop μ-loop
 put-requires c κs = search needs
 
-loop-less : tie.Need-loop-less Inv-loop μ-loop
-loop-less c = search needs
-
-loop-again : tie.Need-loop-again Inv-loop μ-loop
-loop-again c = search needs
+written-requires : tie.Need-written-requires Inv-loop μ-loop
+written-requires c κs = search needs
 
 same-length : tie.Need-same-length Inv-loop μ-loop
 same-length c = search needs
 
 returns : tie.Need-returns Inv-loop μ-loop
 returns c = search needs
+
+loop-less : tie.Need-loop-less Inv-loop μ-loop
+loop-less c = search needs
+
+loop-again : tie.Need-loop-again Inv-loop μ-loop
+loop-again c = search needs
+
+loop-less-2 : tie.Need-loop-less-2 Inv-loop μ-loop
+loop-less-2 c = search needs
+
+loop-again-2 : tie.Need-loop-again-2 Inv-loop μ-loop
+loop-again-2 c = search needs
+
+written-requires-2 : tie.Need-written-requires-2 Inv-loop μ-loop
+written-requires-2 c κs = search needs
+
+same-length-2 : tie.Need-same-length-2 Inv-loop μ-loop
+same-length-2 c = search needs
+
+returns-2 : tie.Need-returns-2 Inv-loop μ-loop
+returns-2 c = search needs
 
 pub put-records-spec : {M : Type 1} → statement M
 put-records-spec =
@@ -82,7 +100,13 @@ put-records-spec =
     part-put-reading-end
     put-reading-requires
     put-requires
+    written-requires
+    same-length
+    returns
     loop-less
     loop-again
-    same-length
-    returns)
+    loop-less-2
+    loop-again-2
+    written-requires-2
+    same-length-2
+    returns-2)
