@@ -53,14 +53,18 @@ same-length-4 c = search needs
 returns-2 : tie.Need-returns-2 Inv-loop μ-loop
 returns-2 c = search needs
 
+-- the turn that goes on, whose test and state lie too deep for the search
+abbrev turn : tie.After-slice-known5 Inv-loop μ-loop → tie.In-loop Inv-loop μ-loop
+turn c = c .before .before .before .before .before .before .before .before .before .before .before .before .before .before
+
 sub-turns : tie.Need-sub-turns Inv-loop μ-loop
-sub-turns c = search (needs, c .before .before .before .before .before .before .before .before .before .before .before .before .before .before .loop-test .taken)
+sub-turns c = search (needs, turn c .loop-test .taken)
 
 loop-less : tie.Need-loop-less Inv-loop μ-loop
-loop-less c = search (needs, c .before .before .before .before .before .before .before .before .before .before .before .before .before .before .loop-test .taken)
+loop-less c = search (needs, turn c .loop-test .taken)
 
 loop-again : tie.Need-loop-again Inv-loop μ-loop
-loop-again c = let i = c .before .before .before .before .before .before .before .before .before .before .before .before .before .before .before .loop .inv in search (needs, i .0, i .1)
+loop-again c = let i = turn c .before .loop .inv in search (needs, i .0, i .1)
 
 same-length-5 : tie.Need-same-length-5 Inv-loop μ-loop
 same-length-5 c = search needs
