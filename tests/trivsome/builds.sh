@@ -8,6 +8,7 @@ part=builds
 . ./common.sh
 # shellcheck source=tests/trivsome/tree.sh
 . tests/trivsome/tree.sh
+unset TRIVSOME_EMULATED # which the gate asks for
 
 # how often rt ran or compiled since count_anew: so_often asks, counts holds it to a number
 count_anew() { true >"$tree/runs" && true >"$tree/compiled"; }
@@ -31,6 +32,12 @@ for path in "$work/bin" "$PATH"; do
     expect 3 without_kit "$tree/trivsome" other >"$work/file" 2>"$work/said"
     says 'there is no command rt' "$work/said"
 done
+# x86-64 code where it is asked for, apart from the machine's own and with nothing to compile
+if [ "$(uname -m)" != x86_64 ]; then
+    expect 0 with_kit env TRIVSOME_EMULATED=yes "$tree/trivsome" echo >"$work/file" 2>"$work/said"
+    echo one | cmp - "$work/file" || differs "x86-64 code that is asked for does not run: $(cat "$work/said")"
+    cmp "$tree/native/start" "$tree/target/native/emulated/echo" || differs "no x86-64 code is made where it is asked for"
+fi
 counts compiled 2
 
 # a link to the script, and a CDPATH at which cd speaks
