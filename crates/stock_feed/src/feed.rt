@@ -1,4 +1,6 @@
 // A line that is being read, and the text about it that waits to be written.
+ghost use mathlib.Core.Path.{_≡_};
+ghost use Rattle.stock_feed.specs.Beginning.{freshFeed};
 use libc::STDERR_FILENO;
 
 // Standard input could not be read.
@@ -18,9 +20,9 @@ pub struct Feed {
     pub at: usize,
     pub end: usize,
     // the last piece was shorter than the room for it, so the line may pause here
-    pub is_short: bool,
+    pub short: bool,
     // no more bytes will come
-    pub is_closed: bool,
+    pub closed: bool,
     // how many bytes of text wait in the output buffer
     pub to: usize,
     // what failed, or 0
@@ -29,12 +31,14 @@ pub struct Feed {
 
 impl Feed {
     // At a line's beginning.
-    pub fn fresh() -> Feed {
+    pub(crate) fn fresh() -> Feed
+        ensures { λ r. ⌜ r ≡ freshFeed ⌝ }
+    {
         Feed {
             at: 0,
             end: 0,
-            is_short: false,
-            is_closed: false,
+            short: false,
+            closed: false,
             to: 0,
             failure: 0,
         }

@@ -1,4 +1,6 @@
 // The frames of a line whose outlines are whole, one at a time, their bodies not yet read.
+ghost use mathlib.Core.Path.{_≡_};
+ghost use Rattle.stock_feed.specs.Beginning.{freshFrames};
 use crate::feed::FULL;
 use crate::feed::Feed;
 use crate::input::read_on;
@@ -36,7 +38,9 @@ pub enum FramePull {
 
 impl Frames {
     // At a line's beginning.
-    pub fn fresh() -> Frames {
+    pub fn fresh() -> Frames
+        ensures { λ r. ⌜ r ≡ freshFrames ⌝ }
+    {
         let feed = Feed::fresh();
         Frames { feed, place: 0 }
     }
@@ -114,7 +118,7 @@ fn in_hand(buf: &[u8], s: Frames) -> Hand {
     if buf.len() < end {
         return Hand::Nothing(s);
     }
-    match ahead(&buf[0..end], s.feed.at, s.feed.is_closed) {
+    match ahead(&buf[0..end], s.feed.at, s.feed.closed) {
         Ahead::Frame(head, from) => found(s, head, from),
         Ahead::Nothing(to) => skipped(s, to),
     }
@@ -146,7 +150,7 @@ pub fn next_frame(buf: &mut [u8], out: &[u8], s: Frames) -> FramePull {
                 return FramePull::Frame(later, framed);
             }
             Hand::Nothing(rest) => {
-                if rest.feed.is_closed {
+                if rest.feed.closed {
                     return FramePull::End(rest);
                 }
                 let feed = rest.feed;

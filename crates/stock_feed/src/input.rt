@@ -8,7 +8,7 @@ use printing::moving::move_down;
 
 // A line that pauses: what is known of it is written, so that it is seen while nothing comes.
 fn paused(out: &[u8], f: Feed) -> Feed {
-    if f.is_short {
+    if f.short {
         return written(out, f);
     }
     f
@@ -32,7 +32,7 @@ pub(crate) fn read_on(buf: &mut [u8], out: &[u8], f: Feed) -> Feed {
     let mut f = f;
     f.at = 0;
     f.end = waiting + more;
-    f.is_closed = more == 0;
-    f.is_short = waiting + more < buf.len();
+    f.closed = more == 0;
+    f.short = waiting + more < buf.len();
     f
 }

@@ -1,4 +1,7 @@
 // The rows of a line, one at a time.
+ghost use mathlib.Core.Path.{_≡_};
+ghost use Rattle.walk.specs.Told.{noRow};
+ghost use Rattle.stock_feed.specs.Beginning.{freshRows};
 use crate::feed::FULL;
 use crate::feed::Feed;
 use crate::input::read_on;
@@ -26,14 +29,18 @@ pub enum RowPull {
 }
 
 // No row.
-fn none() -> Row {
+fn none() -> Row
+    ensures { λ r. ⌜ r ≡ noRow ⌝ }
+{
     let kept = Kept::fresh();
     kept.skipped
 }
 
 impl Rows {
     // At a line's beginning.
-    pub fn fresh() -> Rows {
+    pub fn fresh() -> Rows
+        ensures { λ r. ⌜ r ≡ freshRows ⌝ }
+    {
         let feed = Feed::fresh();
         let kept = Kept::fresh();
         let later = none();
@@ -57,7 +64,7 @@ fn in_hand(buf: &[u8], s: Rows) -> Hand {
     if buf.len() < end {
         return Hand::Nothing(s);
     }
-    match next_rows(&buf[0..end], s.feed.at, kept, s.feed.is_closed) {
+    match next_rows(&buf[0..end], s.feed.at, kept, s.feed.closed) {
         Next::OneRow(row, kept, at) => {
             s.kept = kept;
             s.feed.at = at;
@@ -114,7 +121,7 @@ fn pulled(buf: &mut [u8], out: &[u8], s: Rows) -> RowPull {
                 return RowPull::Row(found, row);
             }
             Hand::Nothing(rest) => {
-                if rest.feed.is_closed {
+                if rest.feed.closed {
                     return ended(rest);
                 }
                 let feed = rest.feed;

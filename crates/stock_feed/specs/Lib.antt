@@ -1,0 +1,2 @@
+-- What a program holds of a line that it reads.
+pub mod Beginning
