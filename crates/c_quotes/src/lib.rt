@@ -6,16 +6,14 @@ ghost use Rattle.stock_quotes.specs.Quotes.{sixCodec};
 ghost use Rattle.c_outcomes.specs.Outcomes.{readOutcome};
 ghost use Rattle.c_outcomes.specs.Lent.{lent};
 ghost use Rattle.c_outcomes.specs.Written.{writtenOutcome, writtenBytes};
-ghost use Rattle.c_quotes.specs.Quotes.{quoteBytes, quoteAmounts, quoteFrom};
+ghost use Rattle.stock_quotes_numbers.specs.Numbers.{quoteBytes, quoteAmounts, quoteFrom};
 
-mod numbers;
-
-use crate::numbers::quote_amounts;
-use crate::numbers::quote_bytes;
-use crate::numbers::quote_of;
 use c_outcomes::is_of;
 use c_outcomes::of_answer;
 use c_outcomes::of_written;
+use stock_quotes_numbers::quote_amounts;
+use stock_quotes_numbers::quote_bytes;
+use stock_quotes_numbers::quote_of;
 use stock_reading::reading::read_quote;
 
 // The answer, and a quote's bytes, time and amounts.

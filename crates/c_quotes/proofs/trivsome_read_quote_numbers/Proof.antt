@@ -4,7 +4,7 @@ use borrow.Author.Tests.{not-true, not-false}
 use lib.ListN.{drop}
 use Rattle.stock_quotes.specs.declared.QuoteReading.{QuoteReading}
 use Rattle.stock_reading.specs.Reading.{quoteAt}
-use Rattle.c_quotes.specs.Quotes.{quoteBytes, quoteAmounts}
+use Rattle.stock_quotes_numbers.specs.Numbers.{quoteBytes, quoteAmounts}
 use Rattle.c_outcomes.specs.Outcomes.{readOutcome}
 use Rattle.c_outcomes.specs.Lent.{isOf}
 use Rattle.c_outcomes.proofs.LentLaws.{lent-filled, lent-kept}

@@ -3,7 +3,7 @@ use mathlib.Core.Path.{ap}
 use mathlib.Core.List.{map}
 use Rattle.stock_prices.specs.declared.Slot.{Slot}
 use Rattle.stock_prices.proofs.Shapes.{someSlot, codes-long}
-use Rattle.c_outcomes.proofs.ListLaws.{listed-all}
+use Rattle.layout.proofs.ListLaws.{listed-all}
 use borrow.Author.Needs.{needs}
 use Rattle.c_prices.proofs.slots.slot_times.Statement.{statement}
 use Rattle.c_prices.proofs.slots.slot_times.Tie as tie

@@ -1,7 +1,8 @@
-// Quotes as numbers and bytes, and back.
-ghost use Prim.Native.Nat.{_<_};
+// A quote as nine bytes, a time and 23 amounts, and back: the form in which other languages take it and lists of numbers keep it.
 ghost use mathlib.Core.Path.{_≡_};
-ghost use Rattle.c_quotes.specs.Quotes.{quoteBytes, quoteAmounts, pairAt, quoteFrom};
+ghost use Prim.Native.Nat.{_<_};
+ghost use lib.ListN.{getD};
+ghost use Rattle.stock_quotes_numbers.specs.Numbers.{quoteBytes, quoteAmounts, pairAt, quoteFrom};
 use amounts::Pair;
 use amounts::Price;
 use amounts::Quantity;
@@ -9,7 +10,7 @@ use codes_times::code_at;
 use stock_quotes::Quote;
 
 // A quote's code, reveal, limit and status bytes.
-pub(crate) fn quote_bytes(q: Quote) -> [u8; 9]
+pub fn quote_bytes(q: Quote) -> [u8; 9]
     ensures { λ r. ⌜ r ≡ quoteBytes q ⌝ }
 {
     let code = q.code;
@@ -27,7 +28,7 @@ pub(crate) fn quote_bytes(q: Quote) -> [u8; 9]
 }
 
 // A quote's total, trade, bids and asks.
-pub(crate) fn quote_amounts(q: Quote) -> [u32; 23]
+pub fn quote_amounts(q: Quote) -> [u32; 23]
     ensures { λ r. ⌜ r ≡ quoteAmounts q ⌝ }
 {
     let t = q.trade;
@@ -60,19 +61,39 @@ pub(crate) fn quote_amounts(q: Quote) -> [u32; 23]
     ]
 }
 
+// The byte at a place; 0 past the end.
+fn byte_at(bytes: &[u8], at: usize) -> u8
+    ensures { λ r. ⌜ r ≡ getD (now (bytes .entry)) at 0 ⌝ }
+{
+    if at < bytes.len() {
+        return bytes[at];
+    }
+    0
+}
+
+// The amount at a place; 0 past the end.
+fn amount_at(amounts: &[u32], at: usize) -> u32
+    ensures { λ r. ⌜ r ≡ getD (now (amounts .entry)) at 0 ⌝ }
+{
+    if at < amounts.len() {
+        return amounts[at];
+    }
+    0
+}
+
 // The pair at a place of the amounts.
-fn pair_at(amounts: &[u32; 23], at: usize) -> Pair
+fn pair_at(amounts: &[u32], at: usize) -> Pair
     requires { ⌜ at < 22 ⌝ }
     ensures { λ r. ⌜ r ≡ pairAt (now (amounts .entry)) at ⌝ }
 {
     Pair {
-        price: Price(amounts[at]),
-        quantity: Quantity(amounts[at + 1]),
+        price: Price(amount_at(amounts, at)),
+        quantity: Quantity(amount_at(amounts, at + 1)),
     }
 }
 
-// The quote of a number, such bytes, a time and such amounts.
-pub(crate) fn quote_of(seq: u32, bytes: &[u8; 9], time: u64, amounts: &[u32; 23]) -> Quote
+// The quote of a number, such bytes, a time and such amounts; bytes and amounts that there are not are 0.
+pub fn quote_of(seq: u32, bytes: &[u8], time: u64, amounts: &[u32]) -> Quote
     ensures { λ r. ⌜ r ≡ quoteFrom seq (now (bytes .entry)) time (now (amounts .entry)) ⌝ }
 {
     let code = code_at(bytes, 0);
@@ -95,10 +116,10 @@ pub(crate) fn quote_of(seq: u32, bytes: &[u8; 9], time: u64, amounts: &[u32; 23]
         seq,
         code,
         time,
-        reveal: bytes[6],
-        limit: bytes[7],
-        status: bytes[8],
-        total: Quantity(amounts[0]),
+        reveal: byte_at(bytes, 6),
+        limit: byte_at(bytes, 7),
+        status: byte_at(bytes, 8),
+        total: Quantity(amount_at(amounts, 0)),
         trade,
         bids,
         asks,

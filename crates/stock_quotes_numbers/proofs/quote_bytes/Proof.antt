@@ -1,12 +1,12 @@
--- `numbers::quote_bytes` meets its contract.
+-- `quote_bytes` meets its contract.
 use Prim.Native.Nat.{ℕ}
 use mathlib.Core.Path.{_≡_, ap}
 use mathlib.Core.List.{List, [], _∷_, _++_}
 use lib.ListN.{length}
-use Rattle.c_outcomes.proofs.ListLaws.{listed-all}
+use Rattle.layout.proofs.ListLaws.{listed-all}
 use borrow.Author.Needs.{needs}
-use Rattle.c_quotes.proofs.numbers.quote_bytes.Statement.{statement}
-use Rattle.c_quotes.proofs.numbers.quote_bytes.Tie as tie
+use Rattle.stock_quotes_numbers.proofs.quote_bytes.Statement.{statement}
+use Rattle.stock_quotes_numbers.proofs.quote_bytes.Tie as tie
 
 array-read-t5 : tie.Need-array-read-t5
 array-read-t5 c = search needs

@@ -1,14 +1,14 @@
--- `numbers::quote_amounts` meets its contract.
+-- `quote_amounts` meets its contract.
 use mathlib.Core.Path.{_≡_, ap₂}
 use mathlib.Core.List.{List, _∷_, _++_}
 use lib.ListN.{length}
 use Rattle.amounts.specs.declared.Pair.{Pair}
 use Rattle.stock_quotes.specs.Quotes.{noPair, flat}
 use Rattle.stock_quotes.proofs.PairLaws.{length-mapped}
-use Rattle.c_outcomes.proofs.ListLaws.{listed-all}
+use Rattle.layout.proofs.ListLaws.{listed-all}
 use borrow.Author.Needs.{needs}
-use Rattle.c_quotes.proofs.numbers.quote_amounts.Statement.{statement}
-use Rattle.c_quotes.proofs.numbers.quote_amounts.Tie as tie
+use Rattle.stock_quotes_numbers.proofs.quote_amounts.Statement.{statement}
+use Rattle.stock_quotes_numbers.proofs.quote_amounts.Tie as tie
 
 element-copy-out-t7 : tie.Need-element-copy-out-t7
 element-copy-out-t7 c = search needs
