@@ -10,11 +10,11 @@ use crate::generate::Generator;
 use crate::reading::read_at;
 use crate::seen::{around, Seen};
 use crate::series::texts;
-use crate::{gaps, listing, messages, numbers};
+use crate::{board, gaps, listing, messages, numbers};
 
-/// The most frames of one line, and how many short lines there are behind each.
+/// The most frames of one line, which are enough to fill a board, and the frames of the shorter lines behind each.
 const LINE: usize = 25_000;
-const SHORT_LINES: usize = 10;
+const SHORTER: [usize; 13] = [1, 2, 3, 4, 5, 6, 7, 8, 9, 10, 100, 300, 1000];
 
 /// From so many frames on every program has to be there, and every answer to occur.
 const ENOUGH: usize = 100_000;
@@ -33,10 +33,11 @@ struct Program {
     own: fn(&[u8], &mut Vec<u8>) -> io::Result<()>,
 }
 
-const PROGRAMS: [Program; 4] = [
+const PROGRAMS: [Program; 5] = [
     Program { name: "listing", given: Given::Line, own: |input, output| listing::list(input, output) },
     Program { name: "messages", given: Given::Line, own: |input, output| messages::tell(input, output) },
     Program { name: "gaps", given: Given::Line, own: |input, output| gaps::tell(input, output) },
+    Program { name: "board", given: Given::Line, own: |input, output| board::tell(input, output) },
     Program { name: "numbers", given: Given::Series, own: |input, output| numbers::tell(input, output) },
 ];
 
@@ -60,7 +61,7 @@ impl Comparison {
         Ok(Comparison { trivsome, names, folder })
     }
 
-    /// Compares all programs over so many frames, some short lines, and as many arrivals. Prints a line for each program, or
+    /// Compares all programs over so many frames, some shorter lines, and as many arrivals. Prints a line for each program, or
     /// gives the first difference.
     pub fn run(&self, seed: u64, frames: usize) -> Result<(), String> {
         if let Some(program) = PROGRAMS.iter().find(|program| frames >= ENOUGH && !self.has(program)) {
@@ -71,7 +72,7 @@ impl Comparison {
         let mut rows = [0; PROGRAMS.len()];
         let (mut lines, mut bytes) = (0, 0);
         for start in (0..frames).step_by(LINE) {
-            for frames in std::iter::once(LINE.min(frames - start)).chain(1..=SHORT_LINES) {
+            for frames in std::iter::once(LINE.min(frames - start)).chain(SHORTER) {
                 let line = generator.line(frames);
                 lines += 1;
                 bytes += line.len();

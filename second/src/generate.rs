@@ -14,6 +14,9 @@ const QUANTITY: u64 = 99_999_999;
 const NINES: u64 = 999_999_999_999;
 const ZERO: Code = *b"000000";
 
+/// How many stocks most quotes of a line are of.
+const STOCKS: [usize; 5] = [1, 3, 20, 100, 300];
+
 /// A frame before its outline is put around it.
 #[derive(Clone)]
 struct Draft {
@@ -97,17 +100,19 @@ fn put_check_right(bytes: &mut [u8]) {
 pub struct Generator {
     random: Random,
     quotes: Series,
+    stocks: Vec<Code>,
 }
 
 impl Generator {
     pub fn new(seed: u64) -> Generator {
-        Generator { random: Random::new(seed), quotes: Series::default() }
+        Generator { random: Random::new(seed), quotes: Series::default(), stocks: Vec::new() }
     }
 
     /// A closed line of so many frames, whole or damaged, with noise between them. At its end a frame is cut. The numbers of
-    /// format six start anew.
+    /// format six start anew, and its stocks are others.
     pub fn line(&mut self, frames: usize) -> Vec<u8> {
         self.quotes = Series::default();
+        self.stocks = (0..self.random.pick(&STOCKS)).map(|_| self.code()).collect();
         let mut line = Vec::new();
         for _ in 1..frames {
             let piece = match self.random.below(20) {
@@ -171,7 +176,7 @@ impl Generator {
     }
 
     fn quote(&mut self) -> Draft {
-        let (mut code, mut time) = (self.code(), self.time());
+        let (mut code, mut time) = (self.quoted_code(), self.time());
         if self.random.one_in(30) {
             (code, time) = (ZERO, NINES);
         }
@@ -224,6 +229,15 @@ impl Generator {
         body.push(self.random.pick(b"CI"));
         let number = self.number();
         Draft::new(19, 1, number, body)
+    }
+
+    /// Mostly the code of one of the line's stocks, else any.
+    fn quoted_code(&mut self) -> Code {
+        if self.stocks.is_empty() || self.random.one_in(4) {
+            self.code()
+        } else {
+            self.random.pick(&self.stocks)
+        }
     }
 
     /// A code that keeps the rule, but not `000000`.

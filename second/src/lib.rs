@@ -1,7 +1,8 @@
-//! An independent second program: the reading, writing, walking and counting of the exchange's frames, written from the
-//! owner's paper and the specification (docs/RULES.md says what these are) alone, to be run beside the proved program and
-//! compared with it. It is ordinary code; nothing here is proved.
+//! An independent second program: the reading, writing, walking and counting of the exchange's frames and the board of last
+//! quotes, written from the owner's paper and the specification (docs/RULES.md says what these are) alone, to be run beside
+//! the proved program and compared with it. It is ordinary code; nothing here is proved.
 
+pub mod board;
 pub mod compare;
 pub mod digits;
 pub mod faults;

@@ -53,15 +53,20 @@ fn quote_keys(f: &mut fmt::Formatter, quote: &Quote) -> fmt::Result {
         f.write_str("\"last\":true,")?;
     }
     write!(f, "\"reveal\":{},\"limit\":{},\"status\":{},", quote.reveal, quote.limit, quote.status)?;
-    write!(f, "\"total\":{},\"trade\":", quote.total.0)?;
-    match quote.trade() {
+    write!(f, "\"total\":{},", quote.total.0)?;
+    pairs_keys(f, quote.trade(), quote.bids(), quote.asks())
+}
+
+pub(crate) fn pairs_keys(f: &mut fmt::Formatter, trade: Option<Pair>, bids: &[Pair], asks: &[Pair]) -> fmt::Result {
+    f.write_str("\"trade\":")?;
+    match trade {
         Some(pair) => pair_object(f, &pair),
         None => f.write_str("null"),
     }?;
     f.write_str(",\"bids\":")?;
-    array(f, quote.bids(), pair_object)?;
+    array(f, bids, pair_object)?;
     f.write_str(",\"asks\":")?;
-    array(f, quote.asks(), pair_object)
+    array(f, asks, pair_object)
 }
 
 fn pair_object(f: &mut fmt::Formatter, pair: &Pair) -> fmt::Result {
@@ -111,7 +116,7 @@ fn array<T>(f: &mut fmt::Formatter, items: &[T], show: fn(&mut fmt::Formatter, &
 }
 
 /// A code as a string, its spaces kept.
-struct Text<'a>(&'a Code);
+pub(crate) struct Text<'a>(pub(crate) &'a Code);
 
 impl fmt::Display for Text<'_> {
     fn fmt(&self, f: &mut fmt::Formatter) -> fmt::Result {
@@ -146,7 +151,7 @@ impl fmt::Display for Short {
 }
 
 /// HHMMSSffffff as a string, or null for twelve nines; a key of its own behind it says what those mean.
-struct Long(u64);
+pub(crate) struct Long(pub(crate) u64);
 
 impl fmt::Display for Long {
     fn fmt(&self, f: &mut fmt::Formatter) -> fmt::Result {

@@ -1,9 +1,14 @@
-//! What occurs on a line: every answer of the reading and of the ledger, counted, and every accepted message written back.
+//! What occurs on a line: every answer of the reading and of the ledger, and what a board comes to, counted, and every
+//! accepted message written back.
 
+use std::collections::BTreeMap;
 use std::fmt;
 
+use crate::board::{self, Row};
 use crate::ledger::{Arrival, Ledger, Refusal};
 use crate::reading::{read_at, Answer, Message};
+use crate::six::Quote;
+use crate::units::Code;
 use crate::walk::{walk, Line};
 use crate::writing::{write, NotWritten};
 
@@ -16,12 +21,19 @@ pub struct Seen {
     pub formats: [u64; 4],
     /// Arrivals of format six that are new and repeated ones, and those refused with 21 and with 22.
     pub arrivals: [u64; 4],
+    /// Quotes that a clear board took, that were the day's last frame, and those refused with 52.
+    pub taken: [u64; 3],
+    /// Rows at a line's end whose trade is that of their last quote, of an earlier one, and none yet; their sides without a
+    /// level that an earlier quote listed; those of a code that is escaped.
+    pub rows: [u64; 5],
 }
 
 impl Seen {
     /// Adds what occurs on a closed line. Gives the first frame that is not the same when it is written back.
     pub fn line(&mut self, line: &[u8]) -> Result<(), String> {
         let mut ledger = Ledger::FRESH;
+        let mut rows = board::CLEAR;
+        let mut quotes: BTreeMap<Code, Vec<Quote>> = BTreeMap::new();
         for step in walk(line, Line::Closed) {
             self.answers[usize::from(step.answer.number())] += 1;
             if let Answer::Accepted { length, message } = &step.answer {
@@ -42,15 +54,41 @@ impl Seen {
                         Err(Refusal::Full) => 3,
                         Err(why) => return Err(format!("a ledger of arrivals answers {}", why.number())),
                     }] += 1;
+                    self.taken[match board::take(&mut rows, quote) {
+                        Ok(()) => usize::from(quote.ends_the_day()),
+                        Err(board::Refusal::Full) => 2,
+                        Err(why) => return Err(format!("a board of quotes that were read answers {}", why.number())),
+                    }] += 1;
+                    quotes.entry(quote.code).or_default().push(*quote);
                 }
             }
+        }
+        for row in rows.iter().filter(|row| !row.is_free()) {
+            self.row(row, &quotes[&row.code]);
         }
         Ok(())
     }
 
+    /// Adds a row at a line's end, and the quotes that it is from.
+    fn row(&mut self, row: &Row, quotes: &[Quote]) {
+        let sends = quotes.last().is_some_and(|last| last.trade().is_some());
+        self.rows[match row.trade {
+            Some(_) if sends => 0,
+            Some(_) => 1,
+            None => 2,
+        }] += 1;
+        let emptied = [
+            row.bids.count == 0 && quotes.iter().any(|quote| !quote.bids().is_empty()),
+            row.asks.count == 0 && quotes.iter().any(|quote| !quote.asks().is_empty()),
+        ];
+        self.rows[3] += emptied.map(u64::from).iter().sum::<u64>();
+        self.rows[4] += u64::from(row.code.iter().any(|byte| b"\"\\".contains(byte)));
+    }
+
     /// Whether everything that is counted occurred.
     pub fn is_all(&self) -> bool {
-        self.answers.iter().chain(&self.formats).chain(&self.arrivals).all(|&times| times > 0)
+        let of_frames = self.answers.iter().chain(&self.formats).chain(&self.arrivals);
+        of_frames.chain(&self.taken).chain(&self.rows).all(|&times| times > 0)
     }
 }
 
@@ -63,7 +101,12 @@ impl fmt::Display for Seen {
         let [five, six, twelve, nineteen] = self.formats;
         write!(f, "\naccepted and written back: five {five}, six {six}, twelve {twelve}, nineteen {nineteen}")?;
         let [new, repeat, number, full] = self.arrivals;
-        write!(f, "\nnumbers of format six: new {new}, repeat {repeat}, 21 {number}, 22 {full}")
+        write!(f, "\nnumbers of format six: new {new}, repeat {repeat}, 21 {number}, 22 {full}")?;
+        let [taken, last, full] = self.taken;
+        write!(f, "\nboards: taken {taken}, the day's last {last}, 52 {full}")?;
+        let [sent, kept, none, emptied, escaped] = self.rows;
+        write!(f, "\nrows: trade sent last {sent}, kept {kept}, none yet {none}; ")?;
+        write!(f, "sides emptied {emptied}, codes escaped {escaped}")
     }
 }
 

@@ -15,6 +15,7 @@ fn script(listed: &str, behind: &str) -> PathBuf {
         ("listing", env!("CARGO_BIN_EXE_listing")),
         ("messages", env!("CARGO_BIN_EXE_messages")),
         ("gaps", env!("CARGO_BIN_EXE_gaps")),
+        ("board", env!("CARGO_BIN_EXE_board")),
         ("numbers", env!("CARGO_BIN_EXE_numbers")),
     ];
     let mut text = format!("#!/bin/sh\ncase $1 in\n--help) echo 'Usage: this'; printf '  %s words\\n' {listed} ;;\n");
@@ -44,9 +45,9 @@ fn compare(listed: &str, behind: &str, frames: &str) -> (Option<i32>, String) {
 
 #[test]
 fn the_same() {
-    let (status, text) = compare("listing messages gaps numbers", "cat", "300");
+    let (status, text) = compare("listing messages gaps board numbers", "cat", "300");
     assert_eq!(status, Some(0), "{text}");
-    for program in ["listing", "messages", "gaps", "numbers"] {
+    for program in ["listing", "messages", "gaps", "board", "numbers"] {
         assert!(text.lines().any(|line| line.starts_with(&format!("{program}: ")) && line.ends_with(" all the same")));
     }
 }
@@ -70,6 +71,8 @@ fn a_difference() {
         ("listing", "sed '$d'", "no such row", "total,"),
         ("messages", "sed '1s/\"seq\":/\"seq\":1/'", "{\"at\":", "{\"at\":"),
         ("gaps", "sed 's/\"heard\":/\"heard\":1/'", "\"heard\":1", "{\"highest\":"),
+        ("board", "sed 's/\"trade\":{.*},\"bids\"/\"trade\":null,\"bids\"/'", "\"trade\":null,", "\"trade\":{"),
+        ("board", "sed '$p'", "{\"code\":", "no such row"),
         ("numbers", "sed 's/ new$/ repeat/'", " repeat", " new"),
     ] {
         let (status, text) = compare(program, behind, "300");

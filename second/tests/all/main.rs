@@ -1,5 +1,6 @@
 //! The edges of docs/RULES.md and the specification's worked examples, and tests of each module. One program, to keep builds small.
 
+mod board;
 mod build;
 mod comparing;
 mod edges;
