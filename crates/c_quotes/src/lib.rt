@@ -7,7 +7,6 @@ ghost use Rattle.c_outcomes.specs.Outcomes.{readOutcome};
 ghost use Rattle.c_outcomes.specs.Lent.{lent};
 ghost use Rattle.c_outcomes.specs.Written.{writtenOutcome, writtenBytes};
 ghost use Rattle.stock_quotes_numbers.specs.Numbers.{quoteBytes, quoteAmounts, quoteFrom};
-
 use c_outcomes::is_of;
 use c_outcomes::of_answer;
 use c_outcomes::of_written;

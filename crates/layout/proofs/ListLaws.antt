@@ -12,7 +12,7 @@ module _ {A : Type 0} where
   listed zero i d l = []
   listed (suc k) i d l = getD l i d ∷ listed k (suc i) d l
 
-  listed-is : (k i : ℕ) (d : A) (l : List A) → i + k ≤ length l → listed k i d l ≡ take k (drop i l)
+  pub listed-is : (k i : ℕ) (d : A) (l : List A) → i + k ≤ length l → listed k i d l ≡ take k (drop i l)
   listed-is zero i d l h = refl
   listed-is (suc k) i d l h = ap (λ (r : List A). getD l i d ∷ r) (listed-is k (suc i) d l (omega arith)) ∙ sym (ap (take (suc k)) (drop-cons l i d (omega arith)))
 
