@@ -1,0 +1,52 @@
+-- `keeping::quote_from` meets its contract.
+use Prim.Native.Nat.{ℕ}
+use mathlib.Core.Path.{ap₂, _∙_}
+use mathlib.Core.List.{List}
+use Rattle.stock_quotes_numbers.specs.Numbers.{quoteFrom}
+use borrow.Author.Needs.{needs}
+use Rattle.stock_board_flat.proofs.keeping.quote_from.Statement.{statement}
+use Rattle.stock_board_flat.proofs.keeping.quote_from.Tie as tie
+
+shared-slice-read-marks-of : tie.Need-shared-slice-read-marks-of
+shared-slice-read-marks-of c = search needs
+
+cast-marks-of : tie.Need-cast-marks-of
+cast-marks-of c = search needs
+
+marks-of-requires : tie.Need-marks-of-requires
+marks-of-requires c κs = search needs
+
+shared-slice-read-time-of : tie.Need-shared-slice-read-time-of
+shared-slice-read-time-of c = search needs
+
+shared-slice-read-time-of-2 : tie.Need-shared-slice-read-time-of-2
+shared-slice-read-time-of-2 c = search needs
+
+time-of-requires : tie.Need-time-of-requires
+time-of-requires c κs = search needs
+
+slice-aggregate-quote-of : tie.Need-slice-aggregate-quote-of
+slice-aggregate-quote-of c = search needs
+
+quote-of-requires : tie.Need-quote-of-requires
+quote-of-requires c κs = search needs
+
+returns : tie.Need-returns
+returns c =
+    let t = c .before .before in
+    let m = t .before .before .before in
+    c .quote-of .ensures ∙ ap₂ (λ (marks : List ℕ) (time : ℕ). quoteFrom 0 marks time (m .before .before .before .args .cells .now)) (m .marks-of .ensures) (t .time-of .ensures)
+
+pub quote-from-spec : {M : Type 1} → statement M
+quote-from-spec =
+    tie.close
+    (tie.spec
+    shared-slice-read-marks-of
+    cast-marks-of
+    marks-of-requires
+    shared-slice-read-time-of
+    shared-slice-read-time-of-2
+    time-of-requires
+    slice-aggregate-quote-of
+    quote-of-requires
+    returns)

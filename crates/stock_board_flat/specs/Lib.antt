@@ -1,0 +1,4 @@
+-- The board as lists of numbers: what they hold, and what each call says of them.
+pub mod Flat
+pub mod Calls
+pub mod Steps

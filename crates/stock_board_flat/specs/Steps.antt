@@ -1,0 +1,99 @@
+-- What the steps of a call hand on to each other.
+use Prim.Native.Nat.{ℕ, suc, _+_, _*_, _%_, _<_}
+use mathlib.Core.Path.{_≡_}
+use mathlib.Core.Bool.{Bool, true, false, cond}
+use mathlib.Core.List.{List, [], _∷_}
+use lib.ListN.{length, getD, take, drop}
+use lib.Dec.{eqb, ltb}
+use Rattle.stock_quotes.specs.declared.Quote.{Quote}
+use Rattle.stock_quotes_numbers.specs.Numbers.{pairAt}
+use Rattle.stock_board.specs.declared.LastTrade.{LastTrade}
+use Rattle.stock_board.specs.declared.LastTrade.the-variants.{NoneYet}
+use Rattle.stock_board.specs.declared.Row.{Row}
+use Rattle.stock_board.specs.declared.Asked.{Asked}
+use Rattle.stock_board.specs.declared.BoardAnswer.{BoardAnswer}
+use Rattle.stock_board.specs.declared.BoardAnswer.the-variants.{Done, Refused}
+use Rattle.stock_board.specs.Rows.{freeRow, lastTrade, rowAfter}
+use Rattle.stock_board.specs.Board.{rowCount}
+use Rattle.stock_board_flat.specs.Flat.{Flat, perRow, whole, shownIn, rowsOf}
+use Rattle.stock_board_flat.specs.Calls.{changeFlat, askedFlat, rowAtFlat}
+use Rattle.stock_board_flat.specs.declared.placing.Place.{Place}
+
+-- the lists as one
+abbrev pub flat : List ℕ → List ℕ → Flat
+flat heads cells = record { heads = heads; cells = cells }
+
+-- a head of a code, which stands in its low six bytes
+abbrev pub codes : ℕ
+codes = 281474976710656
+
+abbrev pub ofCode : ℕ → ℕ → Bool
+ofCode code head = eqb (head % codes) code
+
+-- how many heads have a code, and the place of the first
+abbrev pub countOf : ℕ → List ℕ → ℕ
+countOf code [] = 0
+countOf code (head ∷ heads) = cond (ofCode code head) 1 0 + countOf code heads
+
+abbrev pub firstOf : ℕ → List ℕ → ℕ
+firstOf code [] = 0
+firstOf code (head ∷ heads) = cond (ofCode code head) 0 (suc (firstOf code heads))
+
+-- the lists' lengths on a whole board
+pub record Whole (f : Flat) : Type 0 where
+  pub heads-long : length (f .heads) ≡ rowCount
+  pub cells-long : length (f .cells) ≡ rowCount * perRow
+
+-- a free row but for its last trade; of a row before a message nothing else counts
+abbrev pub withTrade : LastTrade → Row
+withTrade last = record {
+  code = freeRow .code;
+  time = 0;
+  limit = 0;
+  status = 0;
+  total = freeRow .total;
+  trade = last;
+  bids = freeRow .bids;
+  asks = freeRow .asks;
+}
+
+-- the last trade in a row's cells
+abbrev pub tradeIn : List ℕ → LastTrade
+tradeIn cells = lastTrade NoneYet (pairAt cells 1) (shownIn cells)
+
+-- the answer of a number
+abbrev pub answerBy : ℕ → BoardAnswer
+answerBy n = cond (eqb n 0) Done (Refused n)
+
+-- the first row of a code, else the first free one
+abbrev pub foundOf : ℕ → List ℕ → Place
+foundOf code heads =
+    cond (ltb (firstOf code heads) rowCount) (record { at = firstOf code heads; new = false; answer = 0 })
+    (cond (ltb (firstOf 0 heads) rowCount) (record { at = firstOf 0 heads; new = true; answer = 0 })
+    (record { at = rowCount; new = false; answer = 52 }))
+
+-- a place is told by a row only on a whole board
+abbrev pub Shown : Flat → Place → Type 0
+Shown f p = p .at < rowCount → whole f ≡ true
+
+-- what a message changes, by a place
+pub record Placed (f : Flat) (m : Quote) (p : Place) : Type 0 where
+  pub shown : Shown f p
+  pub answer-is : answerBy (p .answer) ≡ changeFlat f m .answer
+  pub at-is : p .at ≡ changeFlat f m .at
+  pub row-is : p .at < rowCount → rowAfter (withTrade (cond (p .new) NoneYet (tradeIn (take perRow (drop (perRow * p .at) (f .cells)))))) m ≡ changeFlat f m .row
+
+-- what a question is answered with, by a place
+unfoldable pub toldOf : Flat → Place → Asked
+toldOf f p = record {
+  answer = cond (ltb (p .at) rowCount) Done (Refused (p .answer));
+  row = cond (ltb (p .at) rowCount) (getD (rowsOf f) (p .at) freeRow) freeRow;
+}
+
+pub record Answers (f : Flat) (code : List ℕ) (p : Place) : Type 0 where
+  pub shown : Shown f p
+  pub told : toldOf f p ≡ askedFlat f code
+
+pub record Rows (f : Flat) (at : ℕ) (p : Place) : Type 0 where
+  pub shown : Shown f p
+  pub told : toldOf f p ≡ rowAtFlat f at
