@@ -1,0 +1,4 @@
+-- The laws and theorems of the board.
+pub mod CodeLaws
+pub mod ListedLaws
+pub mod Series

@@ -1,0 +1,2 @@
+-- What a board holds after a series of messages, and after a line.
+pub mod History
