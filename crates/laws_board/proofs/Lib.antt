@@ -2,3 +2,7 @@
 pub mod CodeLaws
 pub mod ListedLaws
 pub mod Series
+pub mod Told
+pub mod RowBack
+pub mod KeptSeries
+pub mod LineBoards

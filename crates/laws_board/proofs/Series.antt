@@ -10,7 +10,7 @@ use lib.Seq.{set-out}
 use lib.Dec.{eqb, leb, ltb}
 use borrow.Author.Tests.{ltb-true, ltb-false, leb-true, lt-ltb, le-ltb, ne-eqb}
 use Rattle.digits.proofs.Bools.{and-left, and-right, no-false}
-use Rattle.codes_times.specs.Times.{codeByte, every}
+use Rattle.codes_times.specs.Times.{codeByte, codeRight, every}
 use Rattle.stock_frame.specs.Codec.{legal}
 use Rattle.stock_frame.proofs.CodecLaws.{legal-ruled}
 use Rattle.stock_quotes.specs.Quotes.{sixRuled, quoteValues, sixCodec}
@@ -27,14 +27,21 @@ use Rattle.laws_board.proofs.CodeLaws.{same-refl, same-eq, same-sym, am
 use Rattle.laws_board.proofs.ListedLaws.{rows, place-mapped, place-below, free-mapped, get-mapped, set-mapped, set-new, distinct-end, stocks-end, length-end}
 
 -- ---- a message that can be written has a code that no free row has
-first-byte : (s : Code) (vs : List ℕ) → every codeByte (take 6 (s ++ vs)) ≡ true → sameCode s freeCode ≡ false
-first-byte [] vs e = refl
-first-byte (b ∷ s) vs e =
-    let low = leb-true 32 b (and-left (leb 32 b) (leb b 126) (and-left (codeByte b) (every codeByte (take 5 (s ++ vs))) e)) in
+first-byte : (b : ℕ) (s : Code) → codeByte b ≡ true → sameCode (b ∷ s) freeCode ≡ false
+first-byte b s e =
+    let low = leb-true 32 b (and-left (leb 32 b) (leb b 126) e) in
     ap (λ (t : Bool). t && sameCode s (replicate 5 0)) (ne-eqb b 0 (λ z. absurd (omega (arith, low, z))))
 
-pub stock-code : (m : Quote) → legal sixCodec m ≡ true → sameCode (m .code) freeCode ≡ false
-stock-code m l = first-byte (m .code) _ (legal-ruled sixCodec m l)
+pub right-code : (s : Code) → codeRight s ≡ true → sameCode s freeCode ≡ false
+right-code [] e = refl
+right-code (b ∷ s) e = first-byte b s (and-left (codeByte b) (every codeByte s) e)
+
+written-code : (s : Code) (vs : List ℕ) → every codeByte (take 6 (s ++ vs)) ≡ true → sameCode s freeCode ≡ false
+written-code [] vs e = refl
+written-code (b ∷ s) vs e = first-byte b s (and-left (codeByte b) (every codeByte (take 5 (s ++ vs))) e)
+
+stock-code : (m : Quote) → legal sixCodec m ≡ true → sameCode (m .code) freeCode ≡ false
+stock-code m l = written-code (m .code) _ (legal-ruled sixCodec m l)
 
 -- ---- what is known of a series
 pub record State (ms : List Quote) : Type 0 where
@@ -290,11 +297,3 @@ module _ (m : Quote) (ms : List Quote) (S : State ms) where
 pub state : (ms : List Quote) → State ms
 state [] = empty-state
 state (m ∷ ms) = next m ms (state ms) .0
-
--- ---- the promise: after any series the board is the rows of the listed stocks, each what its own messages say, and free rows
-pub series-board : (ms : List Quote) → after ms ≡ boardOf ms
-series-board ms = state ms .board
-
--- and each message was answered by the messages alone
-pub series-answers : (ms : List Quote) (m : Quote) → answerTo ms m ≡ answerBy ms m
-series-answers ms m = next m ms (state ms) .1

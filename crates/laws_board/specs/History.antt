@@ -1,15 +1,18 @@
 -- A series of messages from a clear board, the latest first: which of them are taken, and what a stock's own messages say.
 use Prim.Native.Nat.{ℕ, _-_}
-use mathlib.Core.Bool.{Bool, false, cond, not, _&&_, _||_}
+use mathlib.Core.Path.{_≡_}
+use mathlib.Core.Bool.{Bool, true, false, cond, not, _&&_, _||_}
 use mathlib.Core.List.{List, [], _∷_, _++_, map}
-use lib.ListN.{length, replicate}
+use lib.ListN.{length, getD, replicate}
 use lib.Dec.{ltb}
 use Rattle.stock_frame.specs.Codec.{legal}
 use Rattle.stock_quotes.specs.Quotes.{sixCodec}
 use Rattle.stock_quotes.specs.declared.Quote.{Quote}
 use Rattle.stock_board.specs.Rows.{freeRow, rowAfter}
-use Rattle.stock_board.specs.Board.{rowCount, sameCode, lastOfDay, changeOf, changed, clearBoard}
+use Rattle.stock_board.specs.Board.{rowCount, sameCode, lastOfDay, changeOf, changed, clearBoard, stockCode, askedOf, rowAtOf, inUseOf}
 use Rattle.stock_board.specs.declared.Row.{Row}
+use Rattle.stock_board.specs.declared.Asked.{Asked}
+use Rattle.stock_board.specs.declared.InUse.{InUse}
 use Rattle.stock_board.specs.declared.BoardAnswer.{BoardAnswer}
 use Rattle.stock_board.specs.declared.BoardAnswer.the-variants.{Done, Refused}
 
@@ -58,3 +61,21 @@ after (m ∷ ms) = changed (after ms) (changeOf (after ms) m)
 
 abbrev pub answerTo : List Quote → Quote → BoardAnswer
 answerTo ms m = changeOf (after ms) m .answer
+
+-- ---- what the calls tell after a series
+abbrev pub found : Row → Asked
+found row = record { answer = Done; row = row }
+
+abbrev pub missing : Asked
+missing = record { answer = Refused 51; row = freeRow }
+
+pub record Tells (ms : List Quote) : Type 0 where
+  -- the board is the rows of the listed stocks, each what its own messages say, and free rows
+  pub board : after ms ≡ boardOf ms
+  -- a message is answered by the messages alone
+  pub answers : (m : Quote) → answerTo ms m ≡ answerBy ms m
+  -- the row of a code is what its messages say; a code that was never taken has none
+  pub asked : (code : Code) → stockCode code ≡ true → askedOf (after ms) code ≡ cond (among code (listed ms)) (found (said code ms)) missing
+  -- the rows in use are those of the listed stocks, in their order
+  pub in-use : inUseOf (after ms) ≡ InUse.Rows (length (listed ms))
+  pub row-at : (at : ℕ) → rowAtOf (after ms) at ≡ cond (ltb at (length (listed ms))) (found (said (getD (listed ms) at []) ms)) missing

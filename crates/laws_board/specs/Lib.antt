@@ -1,2 +1,4 @@
--- What a board holds after a series of messages, and after a line.
+-- What a board holds after a series of messages, as rows and as lists of numbers, and after a line.
 pub mod History
+pub mod Kept
+pub mod Lines

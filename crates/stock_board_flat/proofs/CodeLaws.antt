@@ -55,7 +55,7 @@ number-zeros [] = refl
 number-zeros (b ∷ s) = ap (λ (x : ℕ). b + 256 * x) (number-zeros s)
 
 -- the bytes of a code that is right
-code-small : (s : List ℕ) → codeRight s ≡ true → (i : ℕ) → getD s i 0 < 256
+pub code-small : (s : List ℕ) → codeRight s ≡ true → (i : ℕ) → getD s i 0 < 256
 code-small [] e i = omega arith
 code-small (b ∷ s) e zero = omega (arith, leb-true b 126 (and-right (leb 32 b) (leb b 126) (and-left (codeByte b) (every codeByte s) e)))
 code-small (b ∷ s) e (suc i) = code-small s (and-right (codeByte b) (every codeByte s) e) i

@@ -11,7 +11,7 @@ use Rattle.stock_quotes.proofs.QuoteLaws.{of-six}
 use Rattle.stock_quotes_numbers.specs.Numbers.{quoteBytes, quoteAmounts, quoteFrom}
 
 -- what holds of every list of five pairs holds of a list whose length is five
-of-five : (P : List Pair → Type 0) → ((a b c d e : Pair) → P (a ∷ b ∷ c ∷ d ∷ e ∷ [])) → (l : List Pair) → length l ≡ 5 → P l
+pub of-five : (P : List Pair → Type 0) → ((a b c d e : Pair) → P (a ∷ b ∷ c ∷ d ∷ e ∷ [])) → (l : List Pair) → length l ≡ 5 → P l
 of-five P p (a ∷ b ∷ c ∷ d ∷ e ∷ []) h = p a b c d e
 of-five P p [] h = absurd (omega arith)
 of-five P p (a ∷ []) h = absurd (omega arith)

@@ -1,0 +1,23 @@
+-- The board that is kept as lists of numbers: a series of messages as memory holds them.
+use Prim.Native.Nat.{ℕ, _<_}
+use mathlib.Core.List.{List, [], _∷_}
+use Rattle.stock_quotes.specs.Quotes.{ShapedQuote}
+use Rattle.stock_quotes.specs.declared.Quote.{Quote}
+use Rattle.stock_board_flat.specs.Flat.{Flat}
+use Rattle.stock_board_flat.specs.Calls.{takenFlat, clearFlat}
+
+-- a message as memory holds it: its arrays have their lengths, its bytes are below 256
+pub record Held (m : Quote) : Type 0 where
+  pub shaped : ShapedQuote m
+  pub limit-byte : m .limit < 256
+  pub status-byte : m .status < 256
+
+-- so are all of a series
+abbrev pub AllHeld : List Quote → Type 0
+AllHeld [] = Unit {0}
+AllHeld (m ∷ ms) = Held m × AllHeld ms
+
+-- the lists that a series of calls leaves, the latest message first
+abbrev pub afterFlat : List Quote → Flat
+afterFlat [] = clearFlat
+afterFlat (m ∷ ms) = takenFlat (afterFlat ms) m
