@@ -33,6 +33,11 @@
  *                            21  the number is 0 or above 99,999,999
  *                            22  there would be more than 64 missing runs
  *                            23  there is no run at this place
+ *   the board                 0  done
+ *                            50  heads or cells of another number were lent
+ *                            51  no row has this code, or there is none at this place
+ *                            14  the quote could not be written
+ *                            52  all rows are those of other stocks
  *
  * docs/RULES.md has the rules. Prices are in ten-thousandths, quantities in the stock's trading units; times of day are
  * numbers of the digits HHMMSSffffff or HHMMSS; codes are six characters, filled up with spaces, with no zero behind them.
@@ -58,12 +63,15 @@ enum { TRIVSOME_NOTICE = 5, TRIVSOME_QUOTE = 6, TRIVSOME_PRICES = 12, TRIVSOME_H
 #define TRIVSOME_NINES UINT64_C(999999999999)
 /* A halt's resume time while the halt is open. */
 #define TRIVSOME_OPEN UINT32_C(999999)
+/* The rows of a board, and with them the heads and the cells that it is kept in. */
+#define TRIVSOME_BOARD_ROWS 256
+#define TRIVSOME_BOARD_CELLS (26 * TRIVSOME_BOARD_ROWS)
 
 /* ------------------------------------------------------------------------------------------------------------------------
  * What a call answers.
  */
 
-/* The answer's number, of every call but trivsome_ledger_clear. */
+/* The answer's number, of every call but trivsome_ledger_clear and trivsome_board_clear_all. */
 static inline unsigned trivsome_answer(uint64_t outcome) { return (unsigned)(outcome & 255); }
 
 /* Of a reading or a move: the format of an accepted frame, else 0. */
@@ -85,7 +93,7 @@ static inline uint32_t trivsome_seq(uint64_t outcome) { return (uint32_t)(outcom
 /* Of an arrival: the number is new. An answer of 0 that is not new is a repeat. */
 static inline bool trivsome_is_new(uint64_t outcome) { return outcome == 256; }
 
-/* Of trivsome_ledger_highest, _heard, _missing and _runs: the figure, where the answer is 0. */
+/* Of trivsome_ledger_highest, _heard, _missing and _runs, and of trivsome_board_in_use: the figure, where the answer is 0. */
 static inline uint32_t trivsome_figure(uint64_t outcome) { return (uint32_t)(outcome >> 8); }
 
 /* Of trivsome_ledger_run: the run's first and last number, where the answer is 0. */
@@ -95,7 +103,7 @@ static inline uint32_t trivsome_last(uint64_t outcome) { return (uint32_t)(outco
 /* ------------------------------------------------------------------------------------------------------------------------
  * Messages. What a struct of zeros is, made by {0} or in C++ by {}: a notice of category 0 without text, which can be written;
  * a quote, prices or a halt that cannot, and answers 14, since six zeros are no code. Prices start from TRIVSOME_NO_PRICES
- * instead. A tally and a ledger of zeros, further below, are fresh ones.
+ * instead. A tally and a ledger of zeros, further below, are fresh ones, and a board of zeros is clear.
  */
 
 typedef struct {
@@ -163,7 +171,7 @@ typedef struct {
 } trivsome_halt;
 
 /* ------------------------------------------------------------------------------------------------------------------------
- * The calls of the archive: bytes and numbers. Those on messages, tallies and ledgers have an easier form below.
+ * The calls of the archive: bytes and numbers. Those on messages, tallies, ledgers and boards have an easier form below.
  */
 
 /* What the bytes of a line from a place on are: 0 to 13. A place at or behind the line's end answers 2. */
@@ -202,6 +210,15 @@ uint64_t trivsome_missing(const uint32_t ends[129]);
 uint64_t trivsome_runs(const uint32_t ends[129]);
 uint64_t trivsome_run(const uint32_t ends[129], uint32_t place);
 
+/* The board, by its heads and its cells: each call answers 50 unless there are TRIVSOME_BOARD_ROWS heads and
+ * TRIVSOME_BOARD_CELLS cells. See trivsome_board below, and the calls that take one. The numbers of a row are those of a quote;
+ * its reveal byte says in bit 7 that there is a last trade, in bits 4 to 6 how many bids and in bits 1 to 3 how many asks. */
+uint64_t trivsome_board_clear(uint64_t *heads, size_t head_count, uint32_t *cells, size_t cell_count);
+uint64_t trivsome_board_take_numbers(uint64_t *heads, size_t head_count, uint32_t *cells, size_t cell_count, uint32_t seq, const uint8_t bytes[9], uint64_t time, const uint32_t amounts[23]);
+uint64_t trivsome_board_ask_numbers(const uint64_t *heads, size_t head_count, const uint32_t *cells, size_t cell_count, const uint8_t code[6], uint8_t bytes[9], uint64_t *time, uint32_t amounts[23]);
+uint64_t trivsome_board_row_numbers(const uint64_t *heads, size_t head_count, const uint32_t *cells, size_t cell_count, size_t place, uint8_t bytes[9], uint64_t *time, uint32_t amounts[23]);
+uint64_t trivsome_board_rows(const uint64_t *heads, size_t head_count, const uint32_t *cells, size_t cell_count);
+
 /* ------------------------------------------------------------------------------------------------------------------------
  * The same with structs. A reading changes the struct only if it accepts a frame of that format:
  *
@@ -222,6 +239,37 @@ static inline uint64_t trivsome_read_notice(const uint8_t *line, size_t length, 
     return outcome;
 }
 
+/* The pairs of a quote or a row out of its amounts. */
+static inline void trivsome_pairs(const uint32_t amounts[23], trivsome_pair *trade, trivsome_pair bids[5], trivsome_pair asks[5])
+{
+    trade->price = amounts[1];
+    trade->quantity = amounts[2];
+    for (int i = 0; i < 5; i++) {
+        bids[i].price = amounts[3 + 2 * i];
+        bids[i].quantity = amounts[4 + 2 * i];
+        asks[i].price = amounts[13 + 2 * i];
+        asks[i].quantity = amounts[14 + 2 * i];
+    }
+}
+
+/* A quote's nine bytes and its amounts. */
+static inline void trivsome_numbers(const trivsome_quote *quote, uint8_t bytes[9], uint32_t amounts[23])
+{
+    memcpy(bytes, quote->code, 6);
+    bytes[6] = quote->reveal;
+    bytes[7] = quote->limit;
+    bytes[8] = quote->status;
+    amounts[0] = quote->total;
+    amounts[1] = quote->trade.price;
+    amounts[2] = quote->trade.quantity;
+    for (int i = 0; i < 5; i++) {
+        amounts[3 + 2 * i] = quote->bids[i].price;
+        amounts[4 + 2 * i] = quote->bids[i].quantity;
+        amounts[13 + 2 * i] = quote->asks[i].price;
+        amounts[14 + 2 * i] = quote->asks[i].quantity;
+    }
+}
+
 /* Reads a quote: 0 to 13. */
 static inline uint64_t trivsome_read_quote(const uint8_t *line, size_t length, size_t at, trivsome_quote *quote)
 {
@@ -237,14 +285,7 @@ static inline uint64_t trivsome_read_quote(const uint8_t *line, size_t length, s
         quote->status = bytes[8];
         quote->time = time;
         quote->total = amounts[0];
-        quote->trade.price = amounts[1];
-        quote->trade.quantity = amounts[2];
-        for (int i = 0; i < 5; i++) {
-            quote->bids[i].price = amounts[3 + 2 * i];
-            quote->bids[i].quantity = amounts[4 + 2 * i];
-            quote->asks[i].price = amounts[13 + 2 * i];
-            quote->asks[i].quantity = amounts[14 + 2 * i];
-        }
+        trivsome_pairs(amounts, &quote->trade, quote->bids, quote->asks);
     }
     return outcome;
 }
@@ -307,19 +348,7 @@ static inline uint64_t trivsome_write_quote(const trivsome_quote *quote, uint8_t
 {
     uint8_t bytes[9];
     uint32_t amounts[23];
-    memcpy(bytes, quote->code, 6);
-    bytes[6] = quote->reveal;
-    bytes[7] = quote->limit;
-    bytes[8] = quote->status;
-    amounts[0] = quote->total;
-    amounts[1] = quote->trade.price;
-    amounts[2] = quote->trade.quantity;
-    for (int i = 0; i < 5; i++) {
-        amounts[3 + 2 * i] = quote->bids[i].price;
-        amounts[4 + 2 * i] = quote->bids[i].quantity;
-        amounts[13 + 2 * i] = quote->asks[i].price;
-        amounts[14 + 2 * i] = quote->asks[i].quantity;
-    }
+    trivsome_numbers(quote, bytes, amounts);
     return trivsome_write_quote_numbers(quote->seq, bytes, quote->time, amounts, buf, size);
 }
 
@@ -398,6 +427,95 @@ static inline uint64_t trivsome_ledger_runs(const trivsome_ledger *ledger) { ret
 static inline uint64_t trivsome_ledger_run(const trivsome_ledger *ledger, uint32_t place)
 {
     return trivsome_run(ledger->ends, place);
+}
+
+/* A board of last quotes: a row to a stock, for up to 256 stocks, in the order in which their codes first came. All zeros are a
+ * clear one: static trivsome_board board. It has 28,672 bytes, which no call copies.
+ *
+ * It is numbers and nothing else, so it is kept in a file as a ledger is. What is read back may be any numbers: the calls take
+ * the rows that stand there for what they are, and damage is not seen. */
+typedef struct {
+    uint64_t heads[TRIVSOME_BOARD_ROWS];
+    uint32_t cells[TRIVSOME_BOARD_CELLS];
+} trivsome_board;
+
+typedef struct {
+    uint8_t code[6];
+    bool has_trade; /* some quote of the stock had one */
+    uint8_t bid_count; /* how many levels there are, 0 to 5 */
+    uint8_t ask_count;
+    uint8_t limit;
+    uint8_t status;
+    uint64_t time; /* HHMMSSffffff */
+    uint32_t total;
+    trivsome_pair trade; /* the last one; pairs that there are not are zeros */
+    trivsome_pair bids[5];
+    trivsome_pair asks[5]; /* the best of each side first */
+} trivsome_row;
+
+/* A row of its numbers. A side of more than 5 levels, which no quote leaves, has 5. */
+static inline void trivsome_row_of(const uint8_t bytes[9], uint64_t time, const uint32_t amounts[23], trivsome_row *row)
+{
+    uint8_t bids = bytes[6] >> 4 & 7, asks = bytes[6] >> 1 & 7;
+    memcpy(row->code, bytes, 6);
+    row->has_trade = bytes[6] >> 7 != 0;
+    row->bid_count = bids < 5 ? bids : 5;
+    row->ask_count = asks < 5 ? asks : 5;
+    row->limit = bytes[7];
+    row->status = bytes[8];
+    row->time = time;
+    row->total = amounts[0];
+    trivsome_pairs(amounts, &row->trade, row->bids, row->asks);
+}
+
+/* Makes every row of any board free. */
+static inline void trivsome_board_clear_all(trivsome_board *board)
+{
+    trivsome_board_clear(board->heads, TRIVSOME_BOARD_ROWS, board->cells, TRIVSOME_BOARD_CELLS);
+}
+
+/* Takes a quote into the row of its code, or else into the first free one: 0, 14 or 52. The row becomes the quote's; but a quote
+ * without a trade leaves the last trade as it was. The day's last frame answers 0, and changes no row. What counts is the order
+ * of the calls, not the times. */
+static inline uint64_t trivsome_board_take(trivsome_board *board, const trivsome_quote *quote)
+{
+    uint8_t bytes[9];
+    uint32_t amounts[23];
+    trivsome_numbers(quote, bytes, amounts);
+    return trivsome_board_take_numbers(board->heads, TRIVSOME_BOARD_ROWS, board->cells, TRIVSOME_BOARD_CELLS, quote->seq, bytes, quote->time, amounts);
+}
+
+/* The row of a code: 0 or 51. Only 0 changes the row that is lent. */
+static inline uint64_t trivsome_board_ask(const trivsome_board *board, const uint8_t code[6], trivsome_row *row)
+{
+    uint8_t bytes[9] = {0};
+    uint64_t time = 0;
+    uint32_t amounts[23] = {0};
+    uint64_t outcome = trivsome_board_ask_numbers(board->heads, TRIVSOME_BOARD_ROWS, board->cells, TRIVSOME_BOARD_CELLS, code, bytes, &time, amounts);
+    if (outcome == 0)
+        trivsome_row_of(bytes, time, amounts, row);
+    return outcome;
+}
+
+/* The row at a place, from 0 for the stock that came first: 0 or 51. Quotes leave no free row before one in use, so this goes
+ * over all of them:
+ *
+ *   for (size_t place = 0; trivsome_board_row(&board, place, &row) == 0; place++) .. */
+static inline uint64_t trivsome_board_row(const trivsome_board *board, size_t place, trivsome_row *row)
+{
+    uint8_t bytes[9] = {0};
+    uint64_t time = 0;
+    uint32_t amounts[23] = {0};
+    uint64_t outcome = trivsome_board_row_numbers(board->heads, TRIVSOME_BOARD_ROWS, board->cells, TRIVSOME_BOARD_CELLS, place, bytes, &time, amounts);
+    if (outcome == 0)
+        trivsome_row_of(bytes, time, amounts, row);
+    return outcome;
+}
+
+/* How many rows are in use: 0, and the figure. */
+static inline uint64_t trivsome_board_in_use(const trivsome_board *board)
+{
+    return trivsome_board_rows(board->heads, TRIVSOME_BOARD_ROWS, board->cells, TRIVSOME_BOARD_CELLS);
 }
 
 #ifdef __cplusplus
