@@ -388,6 +388,151 @@ static void storing(void)
     fclose(file);
 }
 
+// The board: zeros to begin with, and another to compare with.
+static trivsome_board board, other;
+
+static bool board_kept(void) { return memcmp(&board, &other, sizeof board) == 0; }
+
+// Every call on lists of these lengths answers 50, first of all, and leaves what it was lent.
+static void other_lengths(size_t head_count, size_t cell_count)
+{
+    static uint64_t heads[TRIVSOME_BOARD_ROWS + 1];
+    static uint32_t cells[TRIVSOME_BOARD_CELLS + 1];
+    uint64_t *h = head_count == 0 ? NULL : heads;
+    uint32_t *c = cell_count == 0 ? NULL : cells;
+    uint8_t stock[9] = {'1', '3', '0', '1', ' ', ' '}, none[9] = {0}, bytes[9];
+    uint64_t time;
+    uint32_t zeros[23] = {0}, amounts[23];
+    FILL(heads), FILL(cells), FILL(bytes), FILL(time), FILL(amounts);
+    HOLDS(trivsome_board_clear(h, head_count, c, cell_count) == 50);
+    HOLDS(trivsome_board_take_numbers(h, head_count, c, cell_count, 1, stock, 0, zeros) == 50);
+    HOLDS(trivsome_board_take_numbers(h, head_count, c, cell_count, 1, none, 0, zeros) == 50); // 50 before 14
+    HOLDS(trivsome_board_ask_numbers(h, head_count, c, cell_count, stock, bytes, &time, amounts) == 50);
+    HOLDS(trivsome_board_ask_numbers(h, head_count, c, cell_count, none, bytes, &time, amounts) == 50); // and before 51
+    HOLDS(trivsome_board_row_numbers(h, head_count, c, cell_count, 0, bytes, &time, amounts) == 50);
+    HOLDS(trivsome_board_row_numbers(h, head_count, c, cell_count, SIZE_MAX, bytes, &time, amounts) == 50);
+    HOLDS(trivsome_board_rows(h, head_count, c, cell_count) == 50);
+    HOLDS(FILLED(heads) && FILLED(cells) && FILLED(bytes) && FILLED(time) && FILLED(amounts));
+}
+
+static void all_lengths(void)
+{
+    for (size_t heads = 255; heads <= 257; heads++)
+        for (size_t cells = 6655; cells <= 6657; cells++)
+            if (heads != 256 || cells != 6656) other_lengths(heads, cells);
+    other_lengths(0, 0), other_lengths(0, 6656), other_lengths(256, 0);
+}
+
+// There is no row at a place, or none of a code, and the struct stays.
+static bool no_row(size_t place)
+{
+    trivsome_row row;
+    FILL(row);
+    return trivsome_board_row(&board, place, &row) == 51 && FILLED(row);
+}
+
+static bool not_asked(const char *code)
+{
+    trivsome_row row;
+    FILL(row);
+    return trivsome_board_ask(&board, (const uint8_t *)code, &row) == 51 && FILLED(row);
+}
+
+static void clear_board(void)
+{
+    HOLDS(sizeof board == 256 * 8 + 6656 * 4);
+    HOLDS(trivsome_board_in_use(&board) == 0 && no_row(0) && no_row(255) && no_row(256) && no_row(SIZE_MAX));
+    HOLDS(not_asked("2330  ") && not_asked("000000") && not_asked("\0\0\0\0\0") && not_asked("2330 \x1F") && not_asked("2330 \x7F"));
+    HOLDS(trivsome_board_clear(board.heads, 256, board.cells, 6656) == 0 && board_kept());
+    FILL(board);
+    trivsome_board_clear_all(&board);
+    HOLDS(board_kept());
+}
+
+// A stock's quotes, one behind the other: what stays and what goes.
+static void taking(void)
+{
+    trivsome_quote q = {0};
+    trivsome_row r, same;
+    HOLDS(trivsome_board_take(&board, &q) == 14 && board_kept());
+    HOLDS(trivsome_is_quote(trivsome_read_quote(QUOTE, 41, 0, &q)));
+    q.asks[0].price = 1; // a pair that the reveal byte does not show
+    HOLDS(trivsome_board_take(&board, &q) == 14 && board_kept());
+    q.asks[0].price = 0, q.seq = 100000000;
+    HOLDS(trivsome_board_take(&board, &q) == 14 && board_kept());
+    q.seq = 8325;
+    HOLDS(trivsome_board_take(&board, &q) == 0 && trivsome_board_in_use(&board) == 256 && no_row(1));
+    HOLDS(trivsome_board_row(&board, 0, &r) == 0 && memcmp(r.code, "1301  ", 6) == 0 && r.time == 94519033017 && r.total == 1558);
+    HOLDS(r.has_trade && r.bid_count == 0 && r.ask_count == 0 && r.limit == 0x81 && r.status == 0);
+    HOLDS(r.trade.price == 335000 && r.trade.quantity == 0 && r.bids[0].price == 0 && r.asks[4].quantity == 0);
+
+    // no trade, at an earlier time: the trade stays, all else is this quote's; a level of zeros is a level
+    q.reveal = 0x16, q.limit = 1, q.status = 2, q.time = 94519033016, q.total = 7, q.trade.price = 0;
+    for (uint32_t i = 0; i < 3; i++) q.asks[i].price = 3000 + i, q.asks[i].quantity = 4000 + i;
+    HOLDS(trivsome_board_take(&board, &q) == 0 && trivsome_figure(trivsome_board_in_use(&board)) == 1);
+    HOLDS(trivsome_board_ask(&board, q.code, &r) == 0 && r.has_trade && r.trade.price == 335000 && r.trade.quantity == 0);
+    HOLDS(r.bid_count == 1 && r.ask_count == 3 && r.limit == 1 && r.status == 2 && r.time == 94519033016 && r.total == 7);
+    for (int i = 0; i < 5; i++) HOLDS(same_pair(r.bids[i], q.bids[i]) && same_pair(r.asks[i], q.asks[i]));
+    HOLDS(trivsome_board_row(&board, 0, &same) == 0 && same.time == r.time && same_pair(same.asks[2], r.asks[2]));
+
+    // all eleven pairs; the row of another stock stays, and has no trade yet
+    trivsome_quote second = {1, {'2', '3', '3', '0', ' ', ' '}, 0, 0, 0, 1, 0, {0, 0}, {{0, 0}}, {{0, 0}}};
+    HOLDS(trivsome_board_take(&board, &second) == 0 && trivsome_figure(trivsome_board_in_use(&board)) == 2);
+    q.reveal = 0xDA, q.trade.price = 999999999, q.trade.quantity = 99999999;
+    for (uint32_t i = 0; i < 5; i++) {
+        q.bids[i].price = 1000 + i, q.bids[i].quantity = 2000 + i;
+        q.asks[i].price = 5000 + i, q.asks[i].quantity = 6000 + i;
+    }
+    HOLDS(trivsome_board_take(&board, &q) == 0 && trivsome_board_row(&board, 0, &r) == 0);
+    HOLDS(r.has_trade && r.bid_count == 5 && r.ask_count == 5 && same_pair(r.trade, q.trade));
+    for (int i = 0; i < 5; i++) HOLDS(same_pair(r.bids[i], q.bids[i]) && same_pair(r.asks[i], q.asks[i]));
+    HOLDS(trivsome_board_row(&board, 1, &r) == 0 && memcmp(r.code, "2330  ", 6) == 0 && r.time == 1 && r.total == 0);
+    HOLDS(!r.has_trade && r.bid_count == 0 && r.ask_count == 0 && r.trade.price == 0 && no_row(2));
+    trivsome_board_clear_all(&board);
+    HOLDS(board_kept());
+}
+
+// 256 stocks, and what a full board still takes.
+static void full_board(void)
+{
+    trivsome_quote q = {1, {'0', '0', '0', '0', ' ', ' '}, 0, 0, 0, 0, 0, {0, 0}, {{0, 0}}, {{0, 0}}};
+    trivsome_row r;
+    for (uint32_t i = 0; i < 256; i++) {
+        q.code[0] = (uint8_t)('A' + i / 16), q.code[3] = (uint8_t)('a' + i % 16), q.time = i;
+        HOLDS(trivsome_figure(trivsome_board_in_use(&board)) == i && trivsome_board_take(&board, &q) == 0);
+    }
+    HOLDS(trivsome_board_in_use(&board) == 65536 && no_row(256) && not_asked("A00q  "));
+    for (size_t i = 0; i < 256; i++) {
+        HOLDS(trivsome_board_row(&board, i, &r) == 0 && r.time == i && r.code[0] == 'A' + i / 16 && r.code[3] == 'a' + i % 16);
+        HOLDS(trivsome_board_ask(&board, r.code, &r) == 0 && r.time == i);
+    }
+    other = board;
+    q.code[0] = 'Z';
+    HOLDS(trivsome_board_take(&board, &q) == 52 && board_kept());
+    q.reveal = 0x60;
+    HOLDS(trivsome_board_take(&board, &q) == 14 && board_kept()); // 14 before 52
+    trivsome_quote last = {2, {'0', '0', '0', '0', '0', '0'}, 0, 0, 0, TRIVSOME_NINES, 0, {0, 0}, {{0, 0}}, {{0, 0}}};
+    HOLDS(trivsome_board_take(&board, &last) == 0 && board_kept() && not_asked("000000"));
+    q.reveal = 0, q.code[0] = 'P', q.code[3] = 'p', q.total = 9;
+    HOLDS(trivsome_board_take(&board, &q) == 0 && !board_kept() && trivsome_board_row(&board, 255, &r) == 0 && r.total == 9);
+    HOLDS(board.heads[0] == other.heads[0] && memcmp(board.cells, other.cells, 255 * 26 * 4) == 0);
+
+    // the first row that has a code counts
+    board.heads[7] = board.heads[255];
+    HOLDS(trivsome_board_ask(&board, q.code, &r) == 0 && r.time == 7);
+    // numbers that no quotes leave: rows of bytes that no code has, which asking does not find, and sides of seven levels
+    memset(&board, 0xFF, sizeof board);
+    other = board;
+    HOLDS(trivsome_board_in_use(&board) == 65536 && trivsome_board_take(&board, &q) == 52 && trivsome_board_take(&board, &last) == 0 && board_kept());
+    HOLDS(trivsome_board_row(&board, 255, &r) == 0 && r.has_trade && r.bid_count == 5 && r.ask_count == 5 && not_asked((const char *)r.code));
+    HOLDS(r.limit == 255 && r.status == 255 && r.time == UINT64_MAX && r.total == UINT32_MAX && r.asks[4].quantity == UINT32_MAX);
+    // a free row between others: the next stock's, and nothing is left of what it held
+    board.heads[9] = 0;
+    HOLDS(no_row(9) && trivsome_figure(trivsome_board_in_use(&board)) == 255 && trivsome_board_take(&board, &q) == 0);
+    HOLDS(trivsome_board_row(&board, 9, &r) == 0 && !r.has_trade && r.trade.price == 0 && r.total == 9);
+    memset(&board, 0, sizeof board), memset(&other, 0, sizeof other);
+}
+
 int main(void)
 {
     reading();
@@ -400,5 +545,9 @@ int main(void)
     walking();
     ledger();
     storing();
+    all_lengths();
+    clear_board();
+    taking();
+    full_board();
     return wrong;
 }

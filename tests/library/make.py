@@ -1,46 +1,84 @@
 #!/usr/bin/env python3
-"""Makes tests/library/quotes, what examples/quotes.c has to print of samples/capture.
+"""Makes tests/library/quotes and board, what examples/quotes.c and examples/board.c have to print of samples/capture.
 
 The frames are found and read by the reference reader (tests/reference); nothing is taken from the library.
 
-make.py           writes the file
-make.py --check   compares instead, and exits 1 on a difference
-make.py FILE      prints the quotes of any file
+make.py               writes the files
+make.py --check       compares instead, and exits 1 on a difference
+make.py quotes FILE   prints the quotes of any file
+make.py board FILE    prints its board
+make.py many          writes a line of more stocks than a board has rows
 """
 
 import pathlib
 import sys
 
 sys.path.append(str(pathlib.Path(__file__).resolve().parents[1]))
-from reference import reader, stored
+from reference import frames, reader, stored
 
-STORED = stored.ROOT / "tests" / "library" / "quotes"
+FOLDER = stored.ROOT / "tests" / "library"
 SAMPLE = stored.ROOT / "samples" / "capture"
+ROWS = 256
+MANY = 300
 
 
-def best(pairs):
-    """The first pair, or zeros for none."""
-    price, quantity = pairs[0] if pairs else (0, 0)
+def shown(price, quantity):
     return f"{price // 10000}.{price % 10000:04} x {quantity}"
 
 
-def shown(m):
-    return f"{m['code'].decode('ascii')} {m['seq']} trade {best(m['trade'])} bid {best(m['bids'])} ask {best(m['asks'])}\n"
+def best(pairs, none):
+    """The first pair, or what stands for none."""
+    return shown(*pairs[0]) if pairs else none
+
+
+def named(trade, bids, asks, none):
+    return f"trade {best(trade, none)} bid {best(bids, none)} ask {best(asks, none)}\n"
+
+
+def accepted(line):
+    messages = (message for _, answer, _, message in reader.walk(line) if answer == 0)
+    return [m for m in messages if m["format"] == 6]
 
 
 def quotes(line):
-    messages = (message for _, answer, _, message in reader.walk(line) if answer == 0)
-    return "".join(shown(m) for m in messages if m["format"] == 6)
+    zeros = shown(0, 0)
+    return "".join(f"{m['code'].decode('ascii')} {m['seq']} " + named(m["trade"], m["bids"], m["asks"], zeros) for m in accepted(line))
+
+
+def board(line):
+    """Each stock's last quote, in the order in which the stocks came, with the last trade that any quote of it had."""
+    rows = {}
+    for m in accepted(line):
+        code = m["code"]
+        if code != b"000000" and (code in rows or len(rows) < ROWS):
+            kept = rows[code][0] if code in rows else []
+            rows[code] = m["trade"] or kept, m["bids"], m["asks"]
+    return "".join(f"{code.decode('ascii')} " + named(*row, "none") for code, row in rows.items())
+
+
+def many():
+    """Each stock comes twice. Most rows keep the trade of the first quote, with the levels of the second, or with none."""
+    reveals = [0xDA, 0x00, 0x80, 0x24, 0x12]
+    codes = [f"S{i:03}  ".encode("ascii") for i in range(MANY)]
+    bodies = [frames.quote(reveals[i % 5], code=code) for i, code in enumerate(codes)]
+    bodies += [frames.quote(reveals[i % 3 + 1], code=code) for i, code in enumerate(codes)]
+    bodies.insert(MANY, frames.quote(0x80, code=b"000000", time=frames.NINES))
+    return b"".join(frames.frame("06", body, f"{i + 1:08}") for i, body in enumerate(bodies))
+
+
+PRINTED = {"quotes": quotes, "board": board}
 
 
 def main():
     words = sys.argv[1:]
-    if words and words != ["--check"]:
-        sys.stdout.write(quotes(pathlib.Path(words[0]).read_bytes()))
-        return
-    text = quotes(SAMPLE.read_bytes())
-    stored.keep({STORED: text.encode()})
-    print(f"{text.count(chr(10))} quotes")
+    if words == ["many"]:
+        sys.stdout.buffer.write(many())
+    elif words and words[0] in PRINTED:
+        sys.stdout.write(PRINTED[words[0]](pathlib.Path(words[1]).read_bytes()))
+    else:
+        texts = {name: printed(SAMPLE.read_bytes()) for name, printed in PRINTED.items()}
+        stored.keep({FOLDER / name: text.encode() for name, text in texts.items()})
+        print(", ".join(f"{name}: {text.count(chr(10))} lines" for name, text in texts.items()))
 
 
 if __name__ == "__main__":

@@ -1,6 +1,6 @@
 #!/bin/sh
-# Tries the library as its users in C and C++ do: builds the archive, compiles the header, the example and the tests of the calls,
-# and compares what the example prints with what a program in Python makes of the same files. Prints what differs, and ends with
+# Tries the library as its users in C and C++ do: builds the archive, compiles the header, the examples and the tests of the calls,
+# and compares what the examples print with what a program in Python makes of the same files. Prints what differs, and ends with
 # status 1 if anything did.
 set -u
 CDPATH='' cd -- "$(dirname -- "$0")/../.." || exit 2
@@ -58,21 +58,38 @@ if command -v c++ >/dev/null; then
     tried c++ -std=c++11 tests/library/vectors.cc
 fi
 
-compiled quotes cc -std=c11 examples/quotes.c
-expect 0 "$work/quotes" samples/capture >"$work/out"
-cmp "$work/out" tests/library/quotes || differs "the quotes of samples/capture are printed otherwise"
-for name in listing messages gaps; do
-    line=$(python3 tests/reference/stored.py $name)/stdin
-    python3 tests/library/make.py $line >"$work/expected" || differs "tests/library/make.py failed"
-    expect 0 "$work/quotes" $line >"$work/out"
-    cmp "$work/out" "$work/expected" || differs "the quotes of $line are printed otherwise"
+for example in quotes board; do
+    compiled $example cc -std=c11 examples/$example.c
+    expect 0 "$work/$example" samples/capture >"$work/out"
+    cmp "$work/out" tests/library/$example || differs "$example prints something else of samples/capture"
+    for name in listing messages gaps; do
+        line=$(python3 tests/reference/stored.py $name)/stdin
+        python3 tests/library/make.py $example $line >"$work/expected" || differs "tests/library/make.py failed"
+        expect 0 "$work/$example" $line >"$work/out"
+        cmp "$work/out" "$work/expected" || differs "$example prints something else of $line"
+    done
+    expect 2 "$work/$example" >"$work/out" 2>"$work/said"
+    case $(cat "$work/said") in "usage: $example FILE"*) ;; *) differs "without a file $example does not say its usage" ;; esac
+    [ ! -s "$work/out" ] || differs "without a file $example prints something"
+    expect 2 "$work/$example" samples/capture samples/capture samples/capture 2>"$work/said"
+    expect 1 "$work/$example" "$work/missing" 2>"$work/said"
+    grep -q "$work/missing" "$work/said" || differs "a file that is not there is not named by $example"
+    expect 1 "$work/$example" / 2>"$work/said"
 done
-expect 2 "$work/quotes" >"$work/out" 2>"$work/said"
-[ "$(cat "$work/said")" = "usage: quotes FILE" ] && [ ! -s "$work/out" ] || differs "without a file the usage is not all that is said"
 expect 2 "$work/quotes" samples/capture samples/capture 2>"$work/said"
-expect 1 "$work/quotes" "$work/missing" 2>"$work/said"
-grep -q "$work/missing" "$work/said" || differs "a file that is not there is not named"
-expect 1 "$work/quotes" / 2>"$work/said"
+
+# one stock, one that has no quote, one that is no code; and a board that has no row for all stocks
+expect 0 "$work/board" samples/capture 1101 >"$work/out"
+[ "$(cat "$work/out")" = "$(grep '^1101 ' tests/library/board)" ] || differs "board prints another stock than the one that is asked for"
+expect 1 "$work/board" samples/capture 1102 >"$work/out" 2>"$work/said"
+[ "$(cat "$work/said")" = "board: no quote of 1102" ] && [ ! -s "$work/out" ] || differs "a stock without a quote is not said to be one"
+expect 1 "$work/board" samples/capture 000000 >"$work/out" 2>"$work/said"
+expect 2 "$work/board" samples/capture 1101000 2>"$work/said"
+python3 tests/library/make.py many >"$work/many" && python3 tests/library/make.py board "$work/many" >"$work/expected" ||
+    differs "tests/library/make.py failed"
+expect 0 "$work/board" "$work/many" >"$work/out" 2>"$work/said"
+cmp "$work/out" "$work/expected" || differs "board prints something else of more stocks than it has rows"
+[ "$(cat "$work/said")" = "board: 88 quotes are of stocks that found no row" ] || differs "quotes that found no row are not counted"
 
 ./trivsome --help | grep -q 'trivsome library' || differs "--help does not name the library"
 

@@ -1,5 +1,6 @@
 // Tries the calls of include/trivsome.h from C++, with vectors, an empty one among them, whose pointer may be null. Prints each
 // line that does not hold, and ends with status 1 if there was one.
+#include <memory>
 #include <vector>
 #include "common.h"
 
@@ -50,6 +51,24 @@ static void ledger()
     HOLDS(trivsome_ledger_heard(&ledger) == 0);
 }
 
+// A board on the heap, and one of two vectors; empty ones are refused.
+static void boards()
+{
+    std::unique_ptr<trivsome_board> board(new trivsome_board());
+    trivsome_quote quote = {};
+    trivsome_row row = {};
+    memcpy(quote.code, "2330  ", 6), quote.reveal = 0x80, quote.trade.price = 5;
+    HOLDS(trivsome_board_take(board.get(), &quote) == 0 && trivsome_figure(trivsome_board_in_use(board.get())) == 1);
+    HOLDS(trivsome_board_ask(board.get(), quote.code, &row) == 0 && row.has_trade && row.trade.price == 5);
+    HOLDS(trivsome_board_row(board.get(), 0, &row) == 0 && trivsome_board_row(board.get(), 1, &row) == 51);
+    std::vector<uint64_t> heads(board->heads, board->heads + TRIVSOME_BOARD_ROWS), no_heads;
+    std::vector<uint32_t> cells(board->cells, board->cells + TRIVSOME_BOARD_CELLS), no_cells;
+    HOLDS(trivsome_board_rows(heads.data(), heads.size(), cells.data(), cells.size()) == 256);
+    HOLDS(trivsome_board_rows(no_heads.data(), 0, no_cells.data(), 0) == 50 && trivsome_board_clear(nullptr, 0, nullptr, 0) == 50);
+    trivsome_board_clear_all(board.get());
+    HOLDS(trivsome_board_in_use(board.get()) == 0);
+}
+
 int main()
 {
     Bytes empty;
@@ -57,5 +76,6 @@ int main()
     nothing(nullptr);
     there_and_back();
     ledger();
+    boards();
     return wrong;
 }
