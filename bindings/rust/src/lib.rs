@@ -1,5 +1,6 @@
 //! The proved library for programs in Rust. Every call takes any bytes and any numbers, and answers by the rules' numbers
-//! (docs/RULES.md): frames at any place of a line are read and messages written, lines walked, and frame numbers recorded.
+//! (docs/RULES.md): frames at any place of a line are read and messages written, lines walked, frame numbers recorded, and the
+//! last quotes of stocks kept.
 //!
 //! ```
 //! # let bytes = [0x1B, 0x00, 0x14, 0x01, 0x05, 0x01, 0x00, 0x00, 0x00, 0x01, 0x09, 0x19, 0x0D, 0x0A];
@@ -21,12 +22,30 @@
 //! assert_eq!(why.to_string(), "another format: 5");
 //! ```
 //!
+//! A board keeps what the quotes of each stock said last:
+//!
+//! ```
+//! # let bytes = [0x1B, 0x00, 0x14, 0x01, 0x05, 0x01, 0x00, 0x00, 0x00, 0x01, 0x09, 0x19, 0x0D, 0x0A];
+//! let mut board = trivsome::Board::new();
+//! for step in trivsome::Moves::new(&bytes, trivsome::Line::Closed) {
+//!     if let Ok((_, quote)) = trivsome::read_quote(&bytes, step.at) {
+//!         board.take(&quote)?;
+//!     }
+//! }
+//! for row in &board {
+//!     println!("{} {:?} {:?} {:?}", row.code, row.trade(), row.bids().first(), row.asks().first());
+//! }
+//! # Ok::<(), trivsome::NotTaken>(())
+//! ```
+//!
 //! The calls themselves are in `raw`, with all the unsafe code that there is; the rest gives their numbers names.
 #![deny(missing_docs)]
 
 pub mod raw;
 
 // `raw` alone may have unsafe code: here not even an attribute of their own lets it in.
+#[forbid(unsafe_code)]
+mod board;
 #[forbid(unsafe_code)]
 mod halt;
 #[forbid(unsafe_code)]
@@ -46,6 +65,7 @@ mod units;
 #[forbid(unsafe_code)]
 mod walking;
 
+pub use board::{Board, NotTaken, Row, Rows};
 pub use halt::{read_halt, read_halt_into, write_halt, Event, Halt, Resume, Sending};
 pub use ledger::{Arrival, Ledger, LedgerRefusal, Run};
 pub use message::{read_message, write, Message};

@@ -45,13 +45,13 @@ impl Quote {
     /// The bid levels that are used, best first.
     #[inline]
     pub fn bids(&self) -> &[Pair] {
-        &self.bids[..usize::from(self.reveal >> 4 & 7).min(5)]
+        used(&self.bids, self.reveal >> 4)
     }
 
     /// The ask levels that are used, best first.
     #[inline]
     pub fn asks(&self) -> &[Pair] {
-        &self.asks[..usize::from(self.reveal >> 1 & 7).min(5)]
+        used(&self.asks, self.reveal >> 1)
     }
 
     /// Whether this is the day's last frame.
@@ -59,6 +59,12 @@ impl Quote {
     pub fn ends_the_day(&self) -> bool {
         self.time == LONG_NINES
     }
+}
+
+/// The levels that are used of a side, whose count stands in the three lowest bits.
+#[inline]
+pub(crate) fn used(levels: &[Pair; 5], count: u8) -> &[Pair] {
+    &levels[..usize::from(count & 7).min(5)]
 }
 
 /// Reads the quote at a place of a line.

@@ -2,12 +2,13 @@
 //!
 //! An outcome is one number: the answer in bits 0 to 7, and above it what the call tells beside it. Of a reading and a move
 //! these are the format (8 to 15), the length or the bytes gone past (16 to 31) and the sequence number (32 to 63); of a
-//! writing the length; of a figure the figure; of a run its first number (8 to 35) and its last (36 to 63); of an arrival how
-//! many numbers more are heard. A refused call leaves what it was lent as it came.
+//! writing the length; of a figure the figure, and of a board how many rows are in use; of a run its first number (8 to 35)
+//! and its last (36 to 63); of an arrival how many numbers more are heard. A refused call leaves what it was lent as it came.
 #![allow(unsafe_code)]
 
 use std::mem::{offset_of, size_of};
 
+use crate::board::Row;
 use crate::prices::Prices;
 use crate::quote::Quote;
 
@@ -87,20 +88,59 @@ mod calls {
         pub fn trivsome_missing(ends: *const [u32; 129]) -> u64;
         pub fn trivsome_runs(ends: *const [u32; 129]) -> u64;
         pub fn trivsome_run(ends: *const [u32; 129], place: u32) -> u64;
+        pub fn trivsome_board_clear(heads: *mut u64, head_count: usize, cells: *mut u32, cell_count: usize) -> u64;
+        pub fn trivsome_board_take_numbers(
+            heads: *mut u64,
+            head_count: usize,
+            cells: *mut u32,
+            cell_count: usize,
+            seq: u32,
+            bytes: *const [u8; 9],
+            time: u64,
+            amounts: *const [u32; 23],
+        ) -> u64;
+        pub fn trivsome_board_ask_numbers(
+            heads: *const u64,
+            head_count: usize,
+            cells: *const u32,
+            cell_count: usize,
+            code: *const [u8; 6],
+            bytes: *mut [u8; 9],
+            time: *mut u64,
+            amounts: *mut [u32; 23],
+        ) -> u64;
+        pub fn trivsome_board_row_numbers(
+            heads: *const u64,
+            head_count: usize,
+            cells: *const u32,
+            cell_count: usize,
+            place: usize,
+            bytes: *mut [u8; 9],
+            time: *mut u64,
+            amounts: *mut [u32; 23],
+        ) -> u64;
+        pub fn trivsome_board_rows(heads: *const u64, head_count: usize, cells: *const u32, cell_count: usize) -> u64;
     }
 }
 
-// The fields of a quote stand as the numbers that are lent do: code, reveal, limit and status as nine bytes, then total,
-// trade, bids and asks as 23 numbers. The slots of prices are 60 bytes and 50 numbers.
+// The fields of a quote and of a row stand as the numbers that are lent do: code, reveal, limit and status as nine bytes, then
+// total, trade, bids and asks as 23 numbers. The slots of prices are 60 bytes and 50 numbers.
+macro_rules! assert_stands {
+    ($whole:ty) => {
+        let (bytes, amounts) = (offset_of!($whole, code), offset_of!($whole, total));
+        assert!(offset_of!($whole, reveal) == bytes + 6);
+        assert!(offset_of!($whole, limit) == bytes + 7);
+        assert!(offset_of!($whole, status) == bytes + 8);
+        assert!(offset_of!($whole, trade) == amounts + 4);
+        assert!(offset_of!($whole, bids) == amounts + 12);
+        assert!(offset_of!($whole, asks) == amounts + 52);
+        assert!(bytes + 9 <= size_of::<$whole>() && amounts + 92 <= size_of::<$whole>() && amounts % 4 == 0);
+    };
+}
+
 const _: () = {
-    let (bytes, amounts) = (offset_of!(Quote, code), offset_of!(Quote, total));
-    assert!(offset_of!(Quote, reveal) == bytes + 6);
-    assert!(offset_of!(Quote, limit) == bytes + 7);
-    assert!(offset_of!(Quote, status) == bytes + 8);
-    assert!(offset_of!(Quote, trade) == amounts + 4);
-    assert!(offset_of!(Quote, bids) == amounts + 12);
-    assert!(offset_of!(Quote, asks) == amounts + 52);
-    assert!(bytes + 9 <= size_of::<Quote>() && amounts + 92 <= size_of::<Quote>() && amounts % 4 == 0);
+    assert_stands!(Quote);
+    assert_stands!(Row);
     assert!(size_of::<[crate::Pair; 5]>() == 40 && size_of::<[crate::Amounts; 10]>() == 200);
     assert!(size_of::<[crate::Code; 10]>() == 60);
     assert!(offset_of!(crate::Pair, price) == 0 && offset_of!(crate::Amounts, total) == 16);
@@ -251,4 +291,67 @@ pub fn runs(ends: &[u32; 129]) -> u64 {
 pub fn run(ends: &[u32; 129], place: u32) -> u64 {
     // SAFETY: the ends are lent by a reference.
     unsafe { calls::trivsome_run(ends, place) }
+}
+
+/// Makes every row of a board free: 0 or 50.
+#[inline]
+pub fn board_clear(heads: &mut [u64], cells: &mut [u32]) -> u64 {
+    let (head_count, heads) = (heads.len(), heads.as_mut_ptr());
+    let (cell_count, cells) = (cells.len(), cells.as_mut_ptr());
+    // SAFETY: heads and cells are lent for the call, each with its length.
+    unsafe { calls::trivsome_board_clear(heads, head_count, cells, cell_count) }
+}
+
+/// Takes a quote, whose own fields are lent: 0, 50, 14 or 52.
+#[inline]
+pub fn board_take(heads: &mut [u64], cells: &mut [u32], quote: &Quote) -> u64 {
+    let whole: *const Quote = quote;
+    let (head_count, heads) = (heads.len(), heads.as_mut_ptr());
+    let (cell_count, cells) = (cells.len(), cells.as_mut_ptr());
+    // SAFETY: heads and cells are lent, each with its length; both parts lie in the quote that is lent, laid out as is
+    // asserted above.
+    unsafe {
+        let bytes = whole.byte_add(offset_of!(Quote, code)).cast();
+        let amounts = whole.byte_add(offset_of!(Quote, total)).cast();
+        calls::trivsome_board_take_numbers(heads, head_count, cells, cell_count, quote.seq, bytes, quote.time, amounts)
+    }
+}
+
+/// The row of a code, put straight into the one that is lent: 0, 50 or 51.
+#[inline]
+pub fn board_ask(heads: &[u64], cells: &[u32], code: &[u8; 6], row: &mut Row) -> u64 {
+    let whole: *mut Row = row;
+    let (head_count, heads) = (heads.len(), heads.as_ptr());
+    let (cell_count, cells) = (cells.len(), cells.as_ptr());
+    // SAFETY: heads and cells are lent, each with its length; the three parts lie in the row that is lent, apart and laid
+    // out as is asserted above.
+    unsafe {
+        let bytes = whole.byte_add(offset_of!(Row, code)).cast();
+        let time = whole.byte_add(offset_of!(Row, time)).cast();
+        let amounts = whole.byte_add(offset_of!(Row, total)).cast();
+        calls::trivsome_board_ask_numbers(heads, head_count, cells, cell_count, code, bytes, time, amounts)
+    }
+}
+
+/// The row at a place, likewise: 0, 50 or 51.
+#[inline]
+pub fn board_row(heads: &[u64], cells: &[u32], place: usize, row: &mut Row) -> u64 {
+    let whole: *mut Row = row;
+    let (head_count, heads) = (heads.len(), heads.as_ptr());
+    let (cell_count, cells) = (cells.len(), cells.as_ptr());
+    // SAFETY: heads and cells are lent, each with its length; the three parts lie in the row that is lent, apart and laid
+    // out as is asserted above.
+    unsafe {
+        let bytes = whole.byte_add(offset_of!(Row, code)).cast();
+        let time = whole.byte_add(offset_of!(Row, time)).cast();
+        let amounts = whole.byte_add(offset_of!(Row, total)).cast();
+        calls::trivsome_board_row_numbers(heads, head_count, cells, cell_count, place, bytes, time, amounts)
+    }
+}
+
+/// How many rows are in use: 0 or 50.
+#[inline]
+pub fn board_rows(heads: &[u64], cells: &[u32]) -> u64 {
+    // SAFETY: heads and cells are lent for the call, each with its length.
+    unsafe { calls::trivsome_board_rows(heads.as_ptr(), heads.len(), cells.as_ptr(), cells.len()) }
 }
