@@ -44,8 +44,10 @@ LINES = [
     Line(MESSAGES + " | python3 -c 'import json, sys;", r"(?m)^Trading opens at 09:00\n今日上午九時開始交易$"),
     Line("./trivsome gaps < samples/capture | jq ", r'^"first","last","count"\n3,5,3\n$', ("jq",)),
     Line("./trivsome library", r"libtrivsome\.a", seconds=started.BUILT),
-    Line("cc -std=c11 ", r"^$"),
+    Line("cc -std=c11 -O2 -Iinclude -o target/quotes ", r"^$"),
     Line("target/quotes samples/capture", r"(?m)^2330   1 trade 598.0000 x 49 bid 597.5000 x 96 ask 598.0000 x 49\n"),
+    Line("cc -std=c11 -O2 -Iinclude -o target/board ", r"^$"),
+    Line("target/board samples/capture", r"(?m)^2330   trade 598.0000 x 49 bid none ask none\n"),
 ]
 LIVE = Line("socat ", "", ("socat",))  # goes on until it is stopped
 
