@@ -18,6 +18,9 @@ use Rattle.stock_board_flat.proofs.ask.Reads as ask-reads
 use Rattle.stock_board_flat.proofs.row_at as row-at
 use Rattle.stock_board_flat.proofs.row_at.Kinds as row-at-kinds
 use Rattle.stock_board_flat.proofs.row_at.Reads as row-at-reads
+use Rattle.stock_board_flat.proofs.keeping.kept as kept
+use Rattle.stock_board_flat.proofs.keeping.kept.Kinds as kept-kinds
+use Rattle.stock_board_flat.proofs.keeping.kept.Reads as kept-reads
 use Rattle.stock_board_flat.proofs.in_use as in-use
 use Rattle.stock_board_flat.proofs.in_use.Kinds as in-use-kinds
 use Rattle.stock_board_flat.proofs.in_use.Reads as in-use-reads
@@ -46,3 +49,8 @@ pub determined-in-use : (κs : Lifetimes.Lfts 2) (a : World.ArgsD in-use.signatu
     (s₁ s₂ : Clauses.AtExit (kinds.endedOf 2 in-use-kinds.ps in-use-kinds.r) κs) → in-use-reads.Post κs a r₁ s₁ → in-use-reads.Post κs a r₂ s₂
     → r₁ ≡ r₂
 determined-in-use κs a r₁ r₂ s₁ s₂ p q = p ∙ sym q
+
+pub determined-kept : (κs : Lifetimes.Lfts 0) (a : World.ArgsD kept.signature κs) (r₁ r₂ : World.ResD kept.signature κs)
+    (s₁ s₂ : Clauses.AtExit (kinds.endedOf 0 kept-kinds.ps kept-kinds.r) κs) → kept-reads.Post κs a r₁ s₁ → kept-reads.Post κs a r₂ s₂
+    → r₁ ≡ r₂
+determined-kept κs a r₁ r₂ s₁ s₂ p q = p ∙ sym q

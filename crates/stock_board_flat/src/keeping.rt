@@ -119,6 +119,33 @@ fn shown_of(trades: u8, bids: u8, asks: u8) -> u8
     128 * trades + (16 * (bids % 8) + 2 * (asks % 8))
 }
 
+// The quote that leaves this row of a free one; its reveal byte says whether there is a last trade, and how many levels.
+pub fn kept(row: Row) -> Quote
+    ensures { λ r. ⌜ r ≡ keptOf row ⌝ }
+{
+    let code = row.code;
+    let total = row.total;
+    let last = row.trade;
+    let b = row.bids;
+    let a = row.asks;
+    let bids = b.levels;
+    let asks = a.levels;
+    let reveal = shown_of(trade_bit(last), b.count, a.count);
+    let trade = pair_of(last);
+    Quote {
+        seq: 0,
+        code,
+        time: row.time,
+        reveal,
+        limit: row.limit,
+        status: row.status,
+        total,
+        trade,
+        bids,
+        asks,
+    }
+}
+
 // The row at a place; the free row behind the last one.
 pub(crate) fn row_in(heads: &[u64], cells: &[u32], at: usize) -> Row
     requires { ⌜ (at < 256 → Whole (flat (now heads) (now cells))) ⌝ }

@@ -9,7 +9,7 @@ ghost use Rattle.stock_board_flat.specs.Steps.{flat, answerBy, toldOf, S
 
 mod clearing;
 mod finding;
-mod keeping;
+pub mod keeping;
 mod placing;
 
 use crate::clearing::clear_cells;
