@@ -30,10 +30,18 @@ codes = 281474976710656
 abbrev pub ofCode : ℕ → ℕ → Bool
 ofCode code head = eqb (head % codes) code
 
--- how many heads have a code, and the place of the first
+-- a head that begins with a code's first four bytes
+abbrev pub nearCode : ℕ → ℕ → Bool
+nearCode low head = eqb (head % 4294967296) low
+
+-- how many heads have a code, and how many are near it; the place of the first that has it
 abbrev pub countOf : ℕ → List ℕ → ℕ
 countOf code [] = 0
 countOf code (head ∷ heads) = cond (ofCode code head) 1 0 + countOf code heads
+
+abbrev pub nearCount : ℕ → List ℕ → ℕ
+nearCount low [] = 0
+nearCount low (head ∷ heads) = cond (nearCode low head) 1 0 + nearCount low heads
 
 abbrev pub firstOf : ℕ → List ℕ → ℕ
 firstOf code [] = 0

@@ -1,12 +1,15 @@
 // The first row of a code, found by the heads alone.
 ghost use mathlib.Core.Path.{_≡_};
 ghost use mathlib.Core.Bool.{cond};
-ghost use Prim.Native.Nat.{_+_, _≤_};
-ghost use lib.ListN.{length, drop};
-ghost use Rattle.stock_board_flat.specs.Steps.{ofCode, countOf, firstOf};
+ghost use Prim.Native.Nat.{_≤_};
+ghost use lib.ListN.{length};
+ghost use Rattle.stock_board_flat.specs.Steps.{ofCode, nearCode, countOf, nearCount, firstOf};
 
 // What stands above a code in a head: 256 to the sixth.
 const CODES: u64 = 281_474_976_710_656;
+
+// What stands above its first four bytes.
+const LOW: u64 = 4_294_967_296;
 
 // How many heads are looked at without a way out.
 const BLOCK: usize = 32;
@@ -38,26 +41,32 @@ pub(crate) fn count_of(heads: &[u64], code: u64) -> usize
     n
 }
 
-// A place before which no head has a code, in steps of a block.
-fn skip(heads: &[u64], code: u64) -> usize
-    ensures { λ r. ⌜ (r ≤ length (now (heads .entry))) × (r + firstOf code (drop r (now (heads .entry))) ≡ firstOf code (now (heads .entry))) ⌝ }
+// 1 for a head that begins with a code's first four bytes; else 0.
+fn one_near(head: u64, low: u32) -> u32
+    ensures { λ r. ⌜ (r ≡ cond (nearCode low head) 1 0) × (r ≤ 1) ⌝ }
 {
-    let mut at = 0;
-    while BLOCK <= heads.len() - at {
-        let end = at + BLOCK;
-        if 0 < count_of(&heads[at..end], code) {
-            return at;
-        }
-        at = end;
-    }
-    at
+    if (head % LOW) as u32 == low { 1 } else { 0 }
 }
 
-// The place of the first head that has a code; behind the last where none has.
-pub(crate) fn find(heads: &[u64], code: u64) -> usize
+// How many of a block's heads do, without a way out: so the compiler takes several at a time, and four bytes of each.
+fn count_near(heads: &[u64], low: u32) -> u32
+    requires { ⌜ length (now heads) ≤ 32 ⌝ }
+    ensures { λ r. ⌜ r ≡ nearCount low (now (heads .entry)) ⌝ }
+{
+    let mut n = 0;
+    let mut i = 0;
+    while i < heads.len() {
+        n += one_near(heads[i], low);
+        i += 1;
+    }
+    n
+}
+
+// The place of the first head that has a code, one after the other; behind the last where none has.
+fn scan(heads: &[u64], code: u64) -> usize
     ensures { λ r. ⌜ r ≡ firstOf code (now (heads .entry)) ⌝ }
 {
-    let mut at = skip(heads, code);
+    let mut at = 0;
     while at < heads.len() {
         if is_of(heads[at], code) {
             return at;
@@ -65,4 +74,31 @@ pub(crate) fn find(heads: &[u64], code: u64) -> usize
         at += 1;
     }
     at
+}
+
+// The place of the first head of a block that has a code, if one of its heads is near.
+fn in_block(heads: &[u64], code: u64) -> usize
+    requires { ⌜ length (now heads) ≤ 32 ⌝ }
+    ensures { λ r. ⌜ r ≡ firstOf code (now (heads .entry)) ⌝ }
+{
+    if count_near(heads, (code % LOW) as u32) == 0 {
+        return heads.len();
+    }
+    scan(heads, code)
+}
+
+// The same among any heads, a block at a time.
+pub(crate) fn find(heads: &[u64], code: u64) -> usize
+    ensures { λ r. ⌜ r ≡ firstOf code (now (heads .entry)) ⌝ }
+{
+    let mut at = 0;
+    while BLOCK <= heads.len() - at {
+        let end = at + BLOCK;
+        let i = in_block(&heads[at..end], code);
+        if i < BLOCK {
+            return at + i;
+        }
+        at = end;
+    }
+    at + scan(&heads[at..], code)
 }
