@@ -1,6 +1,6 @@
 // Reads standard input as a closed line and prints the message of each accepted frame, a JSON object a line. Input of any
 // length, in constant memory.
-mod forms;
+mod hex;
 mod objects;
 
 use objects::put_framed;

@@ -1,12 +1,5 @@
 // The object of each message.
-use crate::forms::put_clock;
-use crate::forms::put_code;
-use crate::forms::put_count;
-use crate::forms::put_hex;
-use crate::forms::put_price;
-use crate::forms::put_time;
-use crate::forms::put_two;
-use amounts::Pair;
+use crate::hex::put_hex;
 use amounts::Price;
 use answers::Answer;
 use answers::Frame;
@@ -30,11 +23,16 @@ use stock_reading::reading::FIVE;
 use stock_reading::reading::NINETEEN;
 use stock_reading::reading::SIX;
 use stock_reading::reading::TWELVE;
-
-fn put_coded(out: &mut [u8], at: usize, code: [u8; 6]) -> usize {
-    let at = put_all(out, at, b",\"code\":");
-    put_code(out, at, code)
-}
+use stock_texts::counts::put_count;
+use stock_texts::quotes::put_marks;
+use stock_texts::quotes::put_sides;
+use stock_texts::quotes::put_trade;
+use stock_texts::values::put_clock;
+use stock_texts::values::put_code;
+use stock_texts::values::put_comma;
+use stock_texts::values::put_price;
+use stock_texts::values::put_time;
+use stock_texts::values::put_two;
 
 // The first n bytes of a text.
 fn put_text(out: &mut [u8], at: usize, text: &[u8], n: usize) -> usize {
@@ -57,57 +55,6 @@ fn put_notice(out: &mut [u8], at: usize, m: Notice) -> usize {
     put_text(out, at, &text, m.length)
 }
 
-fn put_pair(out: &mut [u8], at: usize, p: Pair) -> usize {
-    let price = p.price;
-    let at = put_all(out, at, b"{\"price\":");
-    let at = put_price(out, at, price);
-    let at = put_count(out, at, b",\"quantity\":", p.quantity.0 as u64);
-    put(out, at, b'}')
-}
-
-// A comma before each element of an array but the first.
-fn put_comma(out: &mut [u8], at: usize, i: usize) -> usize {
-    if i == 0 {
-        return at;
-    }
-    put(out, at, b',')
-}
-
-// The level at a place if it is one of the first n.
-fn put_listed(out: &mut [u8], at: usize, p: Pair, i: usize, n: usize) -> usize {
-    if i >= n {
-        return at;
-    }
-    let at = put_comma(out, at, i);
-    put_pair(out, at, p)
-}
-
-// The first n levels of a side.
-fn put_levels(out: &mut [u8], at: usize, side: [Pair; 5], n: usize) -> usize {
-    let mut to = at;
-    let mut i = 0;
-    while i < 5 {
-        let p = side[i];
-        to = put_listed(out, to, p, i, n);
-        i += 1;
-    }
-    to
-}
-
-fn put_side(out: &mut [u8], at: usize, key: &[u8], side: [Pair; 5], n: usize) -> usize {
-    let at = put_all(out, at, key);
-    let at = put_levels(out, at, side, n);
-    put(out, at, b']')
-}
-
-fn put_trade(out: &mut [u8], at: usize, trade: Pair, is_sent: bool) -> usize {
-    let at = put_all(out, at, b",\"trade\":");
-    if is_sent {
-        return put_pair(out, at, trade);
-    }
-    put_all(out, at, b"null")
-}
-
 // What the reveal byte lets stand.
 fn put_pairs(out: &mut [u8], at: usize, q: Quote) -> usize {
     let trade = q.trade;
@@ -115,23 +62,16 @@ fn put_pairs(out: &mut [u8], at: usize, q: Quote) -> usize {
     let asks = q.asks;
     let shown = Reveal::from_byte(q.reveal);
     let at = put_trade(out, at, trade, 0 < shown.trades);
-    let at = put_side(out, at, b",\"bids\":[", bids, shown.bids);
-    put_side(out, at, b",\"asks\":[", asks, shown.asks)
-}
-
-// The three bytes of flags and the day's total.
-fn put_marks(out: &mut [u8], at: usize, q: Quote) -> usize {
-    let at = put_count(out, at, b",\"reveal\":", q.reveal as u64);
-    let at = put_count(out, at, b",\"limit\":", q.limit as u64);
-    let at = put_count(out, at, b",\"status\":", q.status as u64);
-    put_count(out, at, b",\"total\":", q.total.0 as u64)
+    put_sides(out, at, bids, shown.bids, asks, shown.asks)
 }
 
 fn put_quote(out: &mut [u8], at: usize, q: Quote) -> usize {
     let code = q.code;
-    let at = put_coded(out, at, code);
+    let total = q.total;
+    let at = put_code(out, at, b',', code);
     let at = put_time(out, at, q.time, b"null,\"last\":true");
-    let at = put_marks(out, at, q);
+    let at = put_count(out, at, b",\"reveal\":", q.reveal as u64);
+    let at = put_marks(out, at, q.limit, q.status, total);
     put_pairs(out, at, q)
 }
 
@@ -154,8 +94,7 @@ fn put_four(out: &mut [u8], at: usize, s: Slot) -> usize {
 
 fn put_slot(out: &mut [u8], at: usize, s: Slot) -> usize {
     let code = s.code;
-    let at = put_all(out, at, b"{\"code\":");
-    let at = put_code(out, at, code);
+    let at = put_code(out, at, b'{', code);
     let at = put_four(out, at, s);
     let at = put_count(out, at, b",\"total\":", s.total.0 as u64);
     let at = put_time(out, at, s.time, b"null,\"closing\":true");
@@ -224,7 +163,7 @@ fn put_halt(out: &mut [u8], at: usize, h: Halt) -> usize {
     let code = h.code;
     let event = h.event;
     let state = h.state;
-    let at = put_coded(out, at, code);
+    let at = put_code(out, at, b',', code);
     let at = put_event(out, at, event);
     put_state(out, at, state)
 }

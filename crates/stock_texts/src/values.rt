@@ -1,4 +1,4 @@
-// Keys and values of an object put into a lent buffer. Each function answers the place behind what it put.
+// A code, a price, a time, and what stands between the elements of an array.
 use amounts::Price;
 use printing::put;
 use printing::put_all;
@@ -7,14 +7,8 @@ use printing::put_number;
 // All nines in the place of a time with a fraction.
 const NINES: u64 = 999_999_999_999;
 
-// A key with its marks, and a number.
-pub(crate) fn put_count(out: &mut [u8], at: usize, key: &[u8], n: u64) -> usize {
-    let at = put_all(out, at, key);
-    put_number(out, at, n)
-}
-
 // The last two digits of a number.
-pub(crate) fn put_two(out: &mut [u8], at: usize, n: u64) -> usize {
+pub fn put_two(out: &mut [u8], at: usize, n: u64) -> usize {
     let tens = (n / 10 % 10) as u8;
     let ones = (n % 10) as u8;
     let at = put(out, at, 48 + tens);
@@ -31,14 +25,14 @@ fn put_hours(out: &mut [u8], at: usize, t: u64) -> usize {
 }
 
 // HHMMSS.
-pub(crate) fn put_clock(out: &mut [u8], at: usize, t: u64) -> usize {
+pub fn put_clock(out: &mut [u8], at: usize, t: u64) -> usize {
     let at = put(out, at, b'"');
     let at = put_hours(out, at, t);
     put(out, at, b'"')
 }
 
 // HHMMSS and six digits of fraction; where there is no time, null and the words that say why.
-pub(crate) fn put_time(out: &mut [u8], at: usize, t: u64, why: &[u8]) -> usize {
+pub fn put_time(out: &mut [u8], at: usize, t: u64, why: &[u8]) -> usize {
     let at = put_all(out, at, b",\"time\":");
     if t == NINES {
         return put_all(out, at, why);
@@ -53,7 +47,7 @@ pub(crate) fn put_time(out: &mut [u8], at: usize, t: u64, why: &[u8]) -> usize {
 }
 
 // Ten-thousandths, with all four decimals.
-pub(crate) fn put_price(out: &mut [u8], at: usize, p: Price) -> usize {
+pub fn put_price(out: &mut [u8], at: usize, p: Price) -> usize {
     let n = p.0 as u64;
     let at = put(out, at, b'"');
     let at = put_number(out, at, n / 10000);
@@ -84,42 +78,18 @@ fn put_letters(out: &mut [u8], at: usize, text: &[u8]) -> usize {
     to
 }
 
-// A code, its spaces too.
-pub(crate) fn put_code(out: &mut [u8], at: usize, code: [u8; 6]) -> usize {
-    let at = put(out, at, b'"');
+// A code, its spaces too; the mark before its key opens the object or goes on with it.
+pub fn put_code(out: &mut [u8], at: usize, mark: u8, code: [u8; 6]) -> usize {
+    let at = put(out, at, mark);
+    let at = put_all(out, at, b"\"code\":\"");
     let at = put_letters(out, at, &code);
     put(out, at, b'"')
 }
 
-fn glyph(d: u8) -> u8 {
-    if d < 10 {
-        return 48 + d;
+// A comma before each element of an array but the first.
+pub fn put_comma(out: &mut [u8], at: usize, i: usize) -> usize {
+    if i == 0 {
+        return at;
     }
-    if d < 16 {
-        return 87 + d;
-    }
-    b'?'
-}
-
-// A byte as two digits to the base sixteen.
-fn put_byte(out: &mut [u8], at: usize, b: u8) -> usize {
-    let at = put(out, at, glyph(b / 16));
-    put(out, at, glyph(b % 16))
-}
-
-fn put_bytes(out: &mut [u8], at: usize, text: &[u8]) -> usize {
-    let mut to = at;
-    let mut i = 0;
-    while i < text.len() {
-        to = put_byte(out, to, text[i]);
-        i += 1;
-    }
-    to
-}
-
-// Bytes that may be any.
-pub(crate) fn put_hex(out: &mut [u8], at: usize, text: &[u8]) -> usize {
-    let at = put(out, at, b'"');
-    let at = put_bytes(out, at, text);
-    put(out, at, b'"')
+    put(out, at, b',')
 }

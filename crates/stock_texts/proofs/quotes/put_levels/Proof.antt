@@ -1,10 +1,10 @@
--- `objects::put_levels` is safe and ends: the buffer keeps its length, and each turn leaves fewer places.
+-- `quotes::put_levels` is safe and ends: the buffer keeps its length, and each turn leaves fewer places.
 use Prim.Native.Nat.{_-_}
 use mathlib.Core.Path.{_≡_}
 use lib.ListN.{length}
 use borrow.Author.Needs.{needs}
-use Rattle.program_messages.proofs.objects.put_levels.Statement.{statement}
-use Rattle.program_messages.proofs.objects.put_levels.Tie as tie
+use Rattle.stock_texts.proofs.quotes.put_levels.Statement.{statement}
+use Rattle.stock_texts.proofs.quotes.put_levels.Tie as tie
 
 abbrev Inv-loop : tie.InvT-loop
 Inv-loop out₀ at n side to₀ i₀ out to i = length out ≡ length out₀

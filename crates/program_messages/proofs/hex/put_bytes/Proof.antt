@@ -1,10 +1,10 @@
--- `forms::put_bytes` is safe and ends: the buffer keeps its length, and each turn leaves fewer bytes of the text.
+-- `hex::put_bytes` is safe and ends: the buffer keeps its length, and each turn leaves fewer bytes of the text.
 use Prim.Native.Nat.{_-_}
 use mathlib.Core.Path.{_≡_}
 use lib.ListN.{length}
 use borrow.Author.Needs.{needs}
-use Rattle.program_messages.proofs.forms.put_bytes.Statement.{statement}
-use Rattle.program_messages.proofs.forms.put_bytes.Tie as tie
+use Rattle.program_messages.proofs.hex.put_bytes.Statement.{statement}
+use Rattle.program_messages.proofs.hex.put_bytes.Tie as tie
 
 abbrev Inv-loop : tie.InvT-loop
 Inv-loop out₀ at text to₀ i₀ out to i = length out ≡ length out₀
