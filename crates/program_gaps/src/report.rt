@@ -8,7 +8,8 @@ use ledger_figures::highest;
 use ledger_figures::missing;
 use ledger_figures::run;
 use printing::put_all;
-use printing::put_number;
+use stock_texts::counts::put_count;
+use stock_texts::counts::put_refused;
 
 // The most missing runs that a ledger holds.
 const RUNS: u32 = 64;
@@ -19,12 +20,6 @@ fn count(first: u32, last: u32) -> u64 {
         return (last - first) as u64 + 1;
     }
     0
-}
-
-// A key with its marks, and a number.
-fn put_count(out: &mut [u8], at: usize, key: &[u8], n: u64) -> usize {
-    let at = put_all(out, at, key);
-    put_number(out, at, n)
 }
 
 // The object of a run, if there is one.
@@ -50,16 +45,6 @@ fn put_runs(out: &mut [u8], at: usize, l: Ledger) -> usize {
         i += 1;
     }
     to
-}
-
-// The object of an answer that refused arrivals, if it did.
-fn put_refused(out: &mut [u8], at: usize, answer: u64, n: u64) -> usize {
-    if n == 0 {
-        return at;
-    }
-    let at = put_count(out, at, b"{\"refused\":", answer);
-    let at = put_count(out, at, b",\"count\":", n);
-    put_all(out, at, b"}\n")
 }
 
 // A key and a figure. A ledger that arrivals left has every figure.
