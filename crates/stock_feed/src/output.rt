@@ -24,7 +24,7 @@ pub fn written(out: &[u8], f: Feed) -> Feed {
 }
 
 // Writes the text that waits if there is little room for more.
-pub(crate) fn relieved(out: &[u8], f: Feed) -> Feed {
+pub fn relieved(out: &[u8], f: Feed) -> Feed {
     if SPARE <= out.len() {
         if f.to <= out.len() - SPARE {
             return f;
