@@ -13,6 +13,7 @@ CRATES = {
     "listing": "program_listing",
     "messages": "program_messages",
     "gaps": "program_gaps",
+    "board": "program_board",
     "worked": "test_worked",
     "numbers": "test_numbers",
 }
