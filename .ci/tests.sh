@@ -49,10 +49,10 @@ quick_tests() {
 # once all is proved: the programs and the library as their users do, and the second program
 user_tests() {
     export TRIVSOME_EMULATED=yes # rt has just made the programs
-    programs="crates/stock_feed/|$(for main in crates/*/src/main.rt; do printf '%s/|' "${main%/src/main.rt}"; done)"
+    programs="crates/stock_feed/|crates/stock_texts/|$(for main in crates/*/src/main.rt; do printf '%s/|' "${main%/src/main.rt}"; done)"
     test_on "${programs}trivsome|native/|include/|examples/|samples/|bindings/rust/Cargo|tests/trivsome/|tests/reference/" \
         "trivsome runs, and fails loudly" sh tests/trivsome/try.sh
-    test_on "${programs}trivsome|samples/|tests/live/|tests/listing/|tests/messages/|tests/reference/" \
+    test_on "${programs}trivsome|samples/|tests/live/|tests/listing/|tests/messages/|tests/board/|tests/reference/" \
         "a line that stays open is shown as it comes" python3 tests/live/try.py
     test_on "${programs}trivsome|tests/live/|tests/reference/" "the test programs say what they cannot do" python3 tests/live/bounded.py
     test_on "${programs}trivsome|README.md|samples/|include/|examples/|tests/readme/|tests/messages/|tests/reference/" \

@@ -12,7 +12,7 @@ import machine
 
 WORK = machine.ROOT / "target" / "bench"
 MB = 10 ** 6
-NAMES = "listing", "messages", "gaps"
+NAMES = "listing", "messages", "gaps", "board"
 
 
 # ---------------------------------------------------------------------------------------------------------------------

@@ -62,10 +62,10 @@ for example in quotes board; do
     compiled $example cc -std=c11 examples/$example.c
     expect 0 "$work/$example" samples/capture >"$work/out"
     cmp "$work/out" tests/library/$example || differs "$example prints something else of samples/capture"
-    for name in listing messages gaps; do
+    for name in listing messages gaps board; do
         line=$(python3 tests/reference/stored.py $name)/stdin
         python3 tests/library/make.py $example $line >"$work/expected" || differs "tests/library/make.py failed"
-        expect 0 "$work/$example" $line >"$work/out"
+        expect 0 "$work/$example" $line >"$work/out" 2>"$work/said"
         cmp "$work/out" "$work/expected" || differs "$example prints something else of $line"
     done
     expect 2 "$work/$example" >"$work/out" 2>"$work/said"

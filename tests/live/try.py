@@ -1,7 +1,8 @@
 #!/usr/bin/env python3
 """Tries the programs on a line that stays open: what is known of it is shown while the input is still open, and before a read
-that fails is told. What is known is made by the reference reader; the rows and objects are those of tests/listing and
-tests/messages. Prints what differs, and ends with status 1 if anything did.
+that fails is told; a board is shown when the line has ended, and not before. What is known is made by the reference reader; the
+rows and objects are those of tests/listing, tests/messages and tests/board. Prints what differs, and ends with status 1 if
+anything did.
 """
 
 import itertools
@@ -12,6 +13,7 @@ import sys
 import tty
 
 sys.path.append(str(pathlib.Path(__file__).resolve().parents[1]))
+from board import make as board_maker
 from listing import make as listing_maker
 from messages import make as messages_maker
 from reference import frames, reader, started, stored
@@ -38,7 +40,19 @@ def messages_of(moves):
     return messages_maker.printed(messages_maker.objects(moves)).encode()
 
 
-PROGRAMS = {"listing": (listing_of, listing_known), "messages": (messages_of, messages_of)}
+def board_of(moves):
+    return board_maker.printed(moves).encode()
+
+
+def nothing(moves):
+    return b""
+
+
+PROGRAMS = {
+    "listing": (listing_of, listing_known),
+    "messages": (messages_of, messages_of),
+    "board": (board_of, nothing),
+}
 
 
 def known_moves(line):
