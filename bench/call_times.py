@@ -11,6 +11,7 @@ ITEMS = {
     "the answer alone": "a place read for its answer (the second program has one reading for all)",
     "writing": "a message written into a buffer that is used again",
     "arrivals": "an arrival at a ledger, which looks over its whole record at each",
+    "board": "a message of 11 pairs on a full board, or a row asked for (the second program lends its own)",
     "walk": "a frame of a line in memory, walked for its tally",
 }
 

@@ -1,10 +1,10 @@
 #!/usr/bin/env python3
 """Times the proved library and programs beside the second program's, in one run on this machine, and prints tables.
 
-run.py [--quick] [calls | listing | messages | gaps]
+run.py [--quick] [calls | listing | messages | gaps | board]
 
-calls     reading and writing of each format, arrivals at a ledger, and a line walked, call by call
-listing, messages, gaps
+calls     reading and writing of each format, arrivals at a ledger, a full board, and a line walked, call by call
+listing, messages, gaps, board
           the programs on whole lines: good frames of growing length, and the worst lines
 --quick   smaller and fewer, done in seconds once all is built
 

@@ -1,9 +1,10 @@
-//! One comparison: lines read, messages written, lines walked and numbers recorded, all from one seed.
+//! One comparison: lines read, messages written, lines walked, numbers recorded and quotes kept, all from one seed.
 
 use second::generate::Generator;
 use second::random::Random;
 
 use crate::arrivals::Arrivals;
+use crate::board::Boards;
 use crate::reading::Readings;
 use crate::walking::Walks;
 use crate::writing::Writings;
@@ -15,12 +16,13 @@ const SHORT_LINES: usize = 50;
 /// From so many frames on everything that is counted has to occur.
 const ENOUGH: usize = 100_000;
 
-/// Compares over so many frames, some short lines, and as many arrivals. Prints a line for each part, or gives the first
-/// difference.
+/// Compares over so many frames, some short lines, and as many arrivals and messages on boards. Prints a line for each part, or
+/// gives the first difference.
 pub fn compare(seed: u64, frames: usize) -> Result<(), String> {
     let mut generator = Generator::new(seed);
     let mut random = Random::new(seed.rotate_left(32));
     let (mut readings, mut writings, mut walks) = (Readings::default(), Writings::default(), Walks::default());
+    let (mut boards, mut other) = (Boards::default(), Random::new(seed.rotate_left(16)));
     let mut lines = 0;
     for start in (0..frames).step_by(LINE) {
         for frames in std::iter::once(LINE.min(frames - start)).chain((1..=SHORT_LINES).map(|short| 1 + short % 10)) {
@@ -30,6 +32,7 @@ pub fn compare(seed: u64, frames: usize) -> Result<(), String> {
             let accepted = readings.line(&line).map_err(within)?;
             writings.line(&line, &accepted, &mut random).map_err(within)?;
             walks.line(&line, &mut random).map_err(within)?;
+            boards.line(&accepted, &mut other).map_err(within)?;
         }
     }
     println!("readings: {frames} frames in {lines} lines, {readings}");
@@ -38,7 +41,9 @@ pub fn compare(seed: u64, frames: usize) -> Result<(), String> {
     let mut arrivals = Arrivals::default();
     arrivals.series(&mut random, frames)?;
     println!("ledger: {arrivals}");
-    let missed = readings.missed().or(writings.missed()).or(walks.missed()).or(arrivals.missed());
+    boards.series(&mut other, frames)?;
+    println!("boards: {boards}");
+    let missed = readings.missed().or(writings.missed()).or(walks.missed()).or(arrivals.missed()).or(boards.missed());
     match missed {
         Some(what) if frames >= ENOUGH => Err(format!("{what} did not occur")),
         _ => Ok(()),

@@ -3,10 +3,15 @@
 //! Each part counts what occurred, and gives the first difference as a text that a person can follow.
 
 mod arrivals;
+mod board;
+mod board_calls;
 mod calls;
 mod damage;
+mod disorder;
 mod ends;
+mod quotes;
 mod reading;
+mod rows;
 pub mod same;
 mod walking;
 mod writing;

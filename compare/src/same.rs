@@ -2,7 +2,7 @@
 
 use std::fmt::Debug;
 
-use second::{five, nineteen, six, twelve};
+use second::{board, five, nineteen, six, twelve};
 
 /// An outcome of a reading: answer, format, length and sequence number in one number.
 pub fn outcome(answer: &second::Answer) -> u64 {
@@ -69,6 +69,27 @@ pub fn quote(quote: &six::Quote) -> trivsome::Quote {
         limit: quote.limit,
         status: quote.status,
     }
+}
+
+/// The row of a board. A last trade that there is not is zeros.
+pub fn row(row: &board::Row) -> trivsome::Row {
+    trivsome::Row {
+        time: row.time,
+        total: trivsome::Quantity(row.total.0),
+        trade: row.trade.as_ref().map(pair).unwrap_or_default(),
+        bids: row.bids.levels.map(|level| pair(&level)),
+        asks: row.asks.levels.map(|level| pair(&level)),
+        code: trivsome::Code(row.code),
+        reveal: shown(row),
+        limit: row.limit,
+        status: row.status,
+    }
+}
+
+/// Which pairs a row has, in the bits of a reveal byte.
+pub fn shown(row: &board::Row) -> u8 {
+    let count = |side: &board::Side| side.count as u8 & 7;
+    u8::from(row.trade.is_some()) << 7 | count(&row.bids) << 4 | count(&row.asks) << 1
 }
 
 pub fn prices(prices: &twelve::Prices) -> trivsome::Prices {

@@ -58,7 +58,7 @@ pub fn kinds() -> Result<Vec<Kind>, String> {
     ])
 }
 
-fn code(random: &mut Random) -> Code {
+pub fn code(random: &mut Random) -> Code {
     let mut code = *b"      ";
     code[..4].fill_with(|| b'0' + random.below(10) as u8);
     code
@@ -88,12 +88,17 @@ fn notice(random: &mut Random, number: u32, length: usize) -> Message {
 }
 
 fn quote(random: &mut Random, number: u32, reveal: u8) -> Message {
+    Message::Six(any_quote(random, number, reveal))
+}
+
+/// A quote with the pairs of a reveal byte.
+pub fn any_quote(random: &mut Random, number: u32, reveal: u8) -> Quote {
     let mut pairs = [Pair::default(); MOST_PAIRS];
     for pair in &mut pairs[..Reveal::of(reveal).pairs()] {
         *pair = Pair { price: price(random), quantity: quantity(random) };
     }
     let (code, time, total) = (code(random), long_time(random), quantity(random));
-    Message::Six(Quote { number, code, time, reveal, limit: 0, status: 0x10, total, pairs })
+    Quote { number, code, time, reveal, limit: 0, status: 0x10, total, pairs }
 }
 
 fn prices(random: &mut Random, number: u32) -> Message {

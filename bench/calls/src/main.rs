@@ -1,7 +1,8 @@
-//! Times the calls of the proved library beside the second program's: reading, writing, arrivals and the walk of a line.
-//! Prints for each a line of words parted by tabs: part, name, bytes, proved and second nanoseconds.
+//! Times the calls of the proved library beside the second program's: reading, writing, arrivals, a board and the walk of a
+//! line. Prints for each a line of words parted by tabs: part, name, bytes, proved and second nanoseconds.
 
 mod arrivals;
+mod board;
 mod kinds;
 mod reading;
 mod timing;
@@ -30,6 +31,7 @@ fn run(effort: Effort) -> Result<(), String> {
         print(&writing::writing(effort, kind)?);
     }
     arrivals::arrivals(effort)?.iter().for_each(print);
+    board::board(effort)?.iter().for_each(print);
     print(&walking::walking(effort, &kinds)?);
     Ok(())
 }
