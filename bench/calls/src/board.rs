@@ -1,4 +1,5 @@
-//! A full board of 256 stocks: messages of 11 pairs taken, a message of a stock too many refused, and rows asked for.
+//! A full board of 256 stocks: messages of 11 pairs taken, and of any; of stocks whose codes differ in the first four bytes, and in
+//! the last two alone; a message of a stock too many refused, and rows asked for.
 
 use std::hint::black_box;
 
@@ -19,7 +20,9 @@ const ANY: usize = 4 * ROWS;
 const ONE: usize = 128;
 
 /// A trade and five levels a side: a message changes all of its row.
-const REVEAL: u8 = 0xDA;
+fn all_pairs(_: &mut Random) -> u8 {
+    0xDA
+}
 
 /// A full board on both sides.
 struct Full {
@@ -34,15 +37,20 @@ pub fn board(effort: Effort) -> Result<Vec<Row>, String> {
     let mut any = |from: &[Code], many: usize| -> Vec<Code> { (0..many).map(|_| random.pick(from)).collect() };
     let (in_turn, questions) = (any(stocks, ANY), any(stocks, ANY));
     let (first, last) = (any(&stocks[..1], ONE), any(&stocks[ROWS - 1..], ONE));
+    let alike: Vec<Code> =
+        (0..ROWS).map(|i| [b'0', b'3', b'0', b'0', b'0' + (i / 16) as u8, b'0' + (i % 16) as u8]).collect();
+    let alike_in_turn = any(&alike, ANY);
     let mut rows = Vec::new();
-    for (name, codes) in [
-        ("taken, any of 256 stocks", &in_turn[..]),
-        ("taken, the first row's stock", &first),
-        ("taken, the last row's stock", &last),
-        ("refused with 52", others),
+    for (name, on, codes, reveal) in [
+        ("taken, any of 256 stocks", stocks, &in_turn[..], all_pairs as fn(&mut Random) -> u8),
+        ("the same, any pairs", stocks, &in_turn, kinds::any_pairs),
+        ("the same, codes that begin alike", &alike, &alike_in_turn, all_pairs),
+        ("taken, the first row's stock", stocks, &first, all_pairs),
+        ("taken, the last row's stock", stocks, &last, all_pairs),
+        ("refused with 52", stocks, others, all_pairs),
     ] {
         let within = |what: String| format!("board {name}: {what}");
-        let (proved, second) = taking(effort, full(stocks)?, &quotes(codes)).map_err(within)?;
+        let (proved, second) = taking(effort, full(on)?, &quotes(codes, reveal)).map_err(within)?;
         rows.push(Row { part: PART, name: name.into(), bytes: 0.0, proved, second });
     }
     let (proved, second) = asking(effort, &full(stocks)?, &questions)?;
@@ -63,19 +71,22 @@ fn codes(many: usize, random: &mut Random) -> Vec<Code> {
 }
 
 /// A message for each of the codes.
-fn quotes(codes: &[Code]) -> Vec<Quote> {
+fn quotes(codes: &[Code], reveal: fn(&mut Random) -> u8) -> Vec<Quote> {
     let mut random = Random::new(12);
     codes
         .iter()
         .zip(1..)
-        .map(|(&code, number)| Quote { code, ..kinds::any_quote(&mut random, number, REVEAL) })
+        .map(|(&code, number)| {
+            let shown = reveal(&mut random);
+            Quote { code, ..kinds::any_quote(&mut random, number, shown) }
+        })
         .collect()
 }
 
 /// A board on which the stocks have come in their order.
 fn full(stocks: &[Code]) -> Result<Full, String> {
     let mut full = Full { proved: Board::new(), second: Box::new(CLEAR) };
-    agree(&mut full, &quotes(stocks))?;
+    agree(&mut full, &quotes(stocks, all_pairs))?;
     if full.proved.rows() == ROWS {
         Ok(full)
     } else {

@@ -50,12 +50,17 @@ pub fn kinds() -> Result<Vec<Kind>, String> {
         Kind::new(TYPICAL, 4, |random, number| quote(random, number, 0xC8))?,
         Kind::new("six, 11 pairs", 5, |random, number| quote(random, number, 0xDA))?,
         Kind::new("six, any pairs", 6, |random, number| {
-            let reveal = random.below(2) << 7 | random.below(6) << 4 | random.below(6) << 1;
-            quote(random, number, reveal as u8)
+            let reveal = any_pairs(random);
+            quote(random, number, reveal)
         })?,
         Kind::new("twelve, 10 slots", 7, prices)?,
         Kind::new("nineteen", 8, halt)?,
     ])
+}
+
+/// A reveal byte, of any trade and any levels.
+pub fn any_pairs(random: &mut Random) -> u8 {
+    (random.below(2) << 7 | random.below(6) << 4 | random.below(6) << 1) as u8
 }
 
 pub fn code(random: &mut Random) -> Code {

@@ -9,6 +9,8 @@ use amounts::Quantity;
 use codes_times::code_at;
 use stock_quotes::Quote;
 
+pub mod whole;
+
 // A quote's code, reveal, limit and status bytes.
 pub fn quote_bytes(q: Quote) -> [u8; 9]
     ensures { λ r. ⌜ r ≡ quoteBytes q ⌝ }
@@ -62,7 +64,7 @@ pub fn quote_amounts(q: Quote) -> [u32; 23]
 }
 
 // The byte at a place; 0 past the end.
-fn byte_at(bytes: &[u8], at: usize) -> u8
+pub(crate) fn byte_at(bytes: &[u8], at: usize) -> u8
     ensures { λ r. ⌜ r ≡ getD (now (bytes .entry)) at 0 ⌝ }
 {
     if at < bytes.len() {
@@ -72,7 +74,7 @@ fn byte_at(bytes: &[u8], at: usize) -> u8
 }
 
 // The amount at a place; 0 past the end.
-fn amount_at(amounts: &[u32], at: usize) -> u32
+pub(crate) fn amount_at(amounts: &[u32], at: usize) -> u32
     ensures { λ r. ⌜ r ≡ getD (now (amounts .entry)) at 0 ⌝ }
 {
     if at < amounts.len() {
@@ -82,7 +84,7 @@ fn amount_at(amounts: &[u32], at: usize) -> u32
 }
 
 // The pair at a place of the amounts.
-fn pair_at(amounts: &[u32], at: usize) -> Pair
+pub(crate) fn pair_at(amounts: &[u32], at: usize) -> Pair
     requires { ⌜ at < 22 ⌝ }
     ensures { λ r. ⌜ r ≡ pairAt (now (amounts .entry)) at ⌝ }
 {
