@@ -6,21 +6,24 @@ use mathlib.Core.List.{List, [], _∷_, _++_}
 use native.Mathlib.Omega.{arith}
 use lib.ListN.{length, getD, set, take, drop, replicate, length-set, length-drop, length-replicate, replicate-append-replicate}
 use lib.Seq.{sets, sets-eq, length-sets, take-at, drop-at, take-set-le, drop-set-add, set-out}
-use lib.Dec.{eqb, leb, ltb}
-use borrow.Author.Tests.{eq-eqb, le-ltb, ltb-true, ltb-false, leb-true}
-use Rattle.digits.proofs.Bools.{and-left, and-right}
+use lib.Dec.{eqb, ltb}
+use borrow.Author.Tests.{eq-eqb, ltb-true, ltb-false}
 use Rattle.amounts.specs.declared.Pair.{Pair}
-use Rattle.codes_times.specs.Times.{every, codeByte, codeRight}
 use Rattle.stock_frame.specs.Codec.{legal}
 use Rattle.stock_quotes.specs.Quotes.{flat, sixCodec}
+use Rattle.stock_quotes.specs.Reveal.{levelsOf}
+use Rattle.stock_quotes.specs.declared.Levels.{Levels}
+use Rattle.stock_quotes.specs.declared.Levels.the-variants.{Shown, NotShown}
 use Rattle.stock_quotes.specs.declared.Quote.{Quote}
+use Rattle.stock_quotes_numbers.specs.Numbers.{pairsAt}
 use Rattle.stock_quotes_numbers.proofs.NumberLaws.{of-five}
-use Rattle.stock_board.specs.Rows.{freeRow, rowAfter}
+use Rattle.stock_board.specs.Rows.{side, freeRow, sideAfter, rowAfter}
 use Rattle.stock_board.specs.declared.BoardAnswer.the-variants.{Done, Refused}
-use Rattle.stock_board.specs.Board.{lastOfDay, unchanged, placeOf, freePlace, changeBy, changeOf, changed}
+use Rattle.stock_board.specs.Board.{lastOfDay, unchanged, placeOf, changeBy, changeOf, changed}
 use Rattle.stock_board.specs.declared.Row.{Row}
+use Rattle.stock_board.specs.declared.Side.{Side}
 use Rattle.stock_board.specs.declared.Change.{Change}
-use Rattle.stock_board_flat.specs.Flat.{Flat, whole, headOf, keptOf, cellsOf, rowFrom, rowsFrom, rowsOf, storedAt}
+use Rattle.stock_board_flat.specs.Flat.{Flat, whole, headOf, keptOf, cellsOf, shownIn, rowFrom, rowsFrom, rowsOf, storedAt}
 use Rattle.stock_board_flat.specs.Calls.{changeFlat, takenAnswer, takenFlat, clearFlat}
 use Rattle.stock_board_flat.specs.Steps.{Whole}
 use Rattle.stock_board_flat.proofs.CodeLaws.{code-small}
@@ -29,7 +32,7 @@ use Rattle.stock_board_flat.proofs.RowLaws.{length-rows}
 use Rattle.stock_board_flat.proofs.TakeLaws.{code-is-right, stored-out}
 use Rattle.laws_board.specs.History.{after, answerTo}
 use Rattle.laws_board.specs.Kept.{Held, AllHeld, afterFlat}
-use Rattle.laws_board.proofs.RowBack.{Storable, row-back}
+use Rattle.laws_board.proofs.RowBack.{SideFits, Storable, row-back}
 
 -- ---- numbers put into a list from a place on
 take-sets : (n : ℕ) (vs l : List ℕ) (b : ℕ) → n ≤ b → take n (sets l b vs) ≡ take n l
@@ -65,9 +68,9 @@ rows-set (x ∷ hs) cs (suc i) head ns n h r =
 cells-long : (row : Row) → Storable row → length (cellsOf (keptOf row)) ≡ 26
 unfolding keptOf
 cells-long row s =
-    of-five (λ bs. length (flat (bs ++ row .asks .levels) ++ tail) ≡ 23 → suc (suc (suc (length (flat (bs ++ row .asks .levels) ++ tail)))) ≡ 26) (λ a b c d e p. omega arith) (row .bids .levels) (s .bids-long)
+    of-five (λ bs. length (flat (bs ++ row .asks .levels) ++ tail) ≡ 23 → suc (suc (suc (length (flat (bs ++ row .asks .levels) ++ tail)))) ≡ 26) (λ a b c d e p. omega arith) (row .bids .levels) (s .bids-fit .long)
     (of-five (λ bs. length (flat (bs ++ row .asks .levels) ++ tail) ≡ 23)
-    (λ a b c d e. of-five (λ cs. length (flat ((a ∷ b ∷ c ∷ d ∷ e ∷ []) ++ cs) ++ tail) ≡ 23) (λ f g h i j. refl) (row .asks .levels) (s .asks-long)) (row .bids .levels) (s .bids-long))
+    (λ a b c d e. of-five (λ cs. length (flat ((a ∷ b ∷ c ∷ d ∷ e ∷ []) ++ cs) ++ tail) ≡ 23) (λ f g h i j. refl) (row .asks .levels) (s .asks-fit .long)) (row .bids .levels) (s .bids-fit .long))
   where
     tail : List ℕ
     tail = keptOf row .reveal ∷ keptOf row .time % 4294967296 ∷ keptOf row .time / 4294967296 ∷ []
@@ -96,10 +99,8 @@ free-storable = record {
   code-bytes = small;
   limit-byte = omega arith;
   status-byte = omega arith;
-  bids-few = omega arith;
-  asks-few = omega arith;
-  bids-long = refl;
-  asks-long = refl;
+  bids-fit = record { few = omega arith; long = refl };
+  asks-fit = record { few = omega arith; long = refl };
 }
   where
     small : (i : ℕ) → getD (replicate 6 0) i 0 < 256
@@ -111,32 +112,49 @@ free-storable = record {
     small (suc (suc (suc (suc (suc zero))))) = omega arith
     small (suc (suc (suc (suc (suc (suc i)))))) = omega arith
 
-after-storable : (row : Row) (m : Quote) → Held m → legal sixCodec m ≡ true → Storable (rowAfter row m)
+-- a message that does not show its levels keeps the sides, so those have to fit
+side-fits : (before : Side) → SideFits before → (l : Levels) (n : ℕ) (levels : List Pair) → n < 8 → length levels ≡ 5 → SideFits (sideAfter before l (side n levels))
+side-fits before b Shown n levels few long = record { few = few; long = long }
+side-fits before b NotShown n levels few long = b
+
+after-storable : (row : Row) → SideFits (row .bids) → SideFits (row .asks) → (m : Quote) → Held m → legal sixCodec m ≡ true → Storable (rowAfter row m)
 unfolding rowAfter
-after-storable row m h l = record {
+after-storable row b a m h l = record {
   code-long = h .shaped .code-long;
   code-bytes = code-small (m .code) (code-is-right m (h .shaped) l);
   limit-byte = h .limit-byte;
   status-byte = h .status-byte;
-  bids-few = omega arith;
-  asks-few = omega arith;
-  bids-long = h .shaped .bids-long;
-  asks-long = h .shaped .asks-long;
+  bids-fit = side-fits (row .bids) b (m .levels) (m .reveal / 16 % 8) (m .bids) (omega arith) (h .shaped .bids-long);
+  asks-fit = side-fits (row .asks) a (m .levels) (m .reveal / 2 % 8) (m .asks) (omega arith) (h .shaped .asks-long);
 }
 
-change-storable : (n own : ℕ) (row : Row) (free : ℕ) (m : Quote) → Held m → Storable (changeBy n own row free m .row)
+change-storable : (n own : ℕ) (row : Row) → SideFits (row .bids) → SideFits (row .asks) → (free : ℕ) (m : Quote) → Held m → Storable (changeBy n own row free m .row)
 unfolding changeBy
-change-storable n own row free m h = go (eqb n 256) (legal sixCodec m) refl (lastOfDay m) (ltb own 256) (ltb free 256)
+change-storable n own row b a free m h = go (eqb n 256) (legal sixCodec m) refl (lastOfDay m) (ltb own 256) (ltb free 256)
   where
-    go : (a b : Bool) → legal sixCodec m ≡ b → (c d e : Bool)
-        → Storable ((cond (not a) (unchanged n (Refused 50)) (cond (not b) (unchanged n (Refused 14)) (cond c (unchanged n Done)
+    go : (w r : Bool) → legal sixCodec m ≡ r → (c d e : Bool)
+        → Storable ((cond (not w) (unchanged n (Refused 50)) (cond (not r) (unchanged n (Refused 14)) (cond c (unchanged n Done)
         (cond d (record { at = own; row = rowAfter row m; answer = Done }) (cond e (record { at = free; row = rowAfter freeRow m; answer = Done }) (unchanged n (Refused 52))))))) .row)
-    go false b p c d e = free-storable
+    go false r p c d e = free-storable
     go true false p c d e = free-storable
     go true true p true d e = free-storable
-    go true true p false true e = after-storable row m h p
-    go true true p false false true = after-storable freeRow m h p
+    go true true p false true e = after-storable row b a m h p
+    go true true p false false true = after-storable freeRow (free-storable .bids-fit) (free-storable .asks-fit) m h p
     go true true p false false false = free-storable
+
+-- the sides of every row that the lists hold do
+row-fits : (head : ℕ) (cells : List ℕ) → SideFits (rowFrom head cells .bids) × SideFits (rowFrom head cells .asks)
+unfolding rowAfter
+row-fits head cells =
+    let l = levelsOf (shownIn cells) in (
+      side-fits (freeRow .bids) (free-storable .bids-fit) l (shownIn cells / 16 % 8) (pairsAt cells 5 3) (omega arith) refl,
+      side-fits (freeRow .asks) (free-storable .asks-fit) l (shownIn cells / 2 % 8) (pairsAt cells 5 13) (omega arith) refl,
+    )
+
+rows-fit : (hs cs : List ℕ) (i : ℕ) → SideFits (getD (rowsFrom hs cs) i freeRow .bids) × SideFits (getD (rowsFrom hs cs) i freeRow .asks)
+rows-fit [] cs i = (free-storable .bids-fit, free-storable .asks-fit)
+rows-fit (x ∷ hs) cs zero = row-fits x (take 26 cs)
+rows-fit (x ∷ hs) cs (suc i) = rows-fit hs (drop 26 cs) i
 
 -- ---- the promise for the lists: after any series they are a whole board, whose rows are those of the series
 pub record Keeps (ms : List Quote) : Type 0 where
@@ -175,9 +193,14 @@ module _ (m : Quote) (ms : List Quote) (held : Held m) (K : Keeps ms) where
   unfolding changeFlat
   change-is = rw (K .all) (ap (λ (l : List Row). changeOf l m) (K .rows))
 
+  fits : (i : ℕ) → SideFits (getD (after ms) i freeRow .bids) × SideFits (getD (after ms) i freeRow .asks)
+  fits i = subst (λ (rows : List Row). SideFits (getD rows i freeRow .bids) × SideFits (getD rows i freeRow .asks)) (K .rows) (rows-fit (f .heads) (f .cells) i)
+
   storable : Storable (changeFlat f m .row)
   unfolding changeOf
-  storable = subst (λ (c : Change). Storable (c .row)) (sym change-is) (change-storable _ _ _ _ m held)
+  storable =
+      let fit = fits (placeOf (m .code) (after ms)) in
+      subst (λ (c : Change). Storable (c .row)) (sym change-is) (change-storable _ _ _ (fit .0) (fit .1) _ m held)
 
   keeps-next : Keeps (m ∷ ms)
   unfolding takenFlat

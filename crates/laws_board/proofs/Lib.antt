@@ -6,3 +6,4 @@ pub mod Told
 pub mod RowBack
 pub mod KeptSeries
 pub mod LineBoards
+pub mod OwnLaws

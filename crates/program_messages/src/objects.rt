@@ -16,6 +16,7 @@ use stock_notices::NoticeReading;
 use stock_prices::Prices;
 use stock_prices::PricesReading;
 use stock_prices::Slot;
+use stock_quotes::Levels;
 use stock_quotes::Quote;
 use stock_quotes::QuoteReading;
 use stock_quotes::Reveal;
@@ -55,14 +56,23 @@ fn put_notice(out: &mut [u8], at: usize, m: Notice) -> usize {
     put_text(out, at, &text, m.length)
 }
 
+// Both sides, with nothing between their brackets where they have no level; null where they are not shown.
+fn put_book(out: &mut [u8], at: usize, q: Quote, shown: Reveal) -> usize {
+    let bids = q.bids;
+    let asks = q.asks;
+    let levels = q.levels;
+    match levels {
+        Levels::Shown => put_sides(out, at, bids, shown.bids, asks, shown.asks),
+        Levels::NotShown => put_all(out, at, b",\"bids\":null,\"asks\":null"),
+    }
+}
+
 // What the reveal byte lets stand.
 fn put_pairs(out: &mut [u8], at: usize, q: Quote) -> usize {
     let trade = q.trade;
-    let bids = q.bids;
-    let asks = q.asks;
     let shown = Reveal::from_byte(q.reveal);
     let at = put_trade(out, at, trade, 0 < shown.trades);
-    put_sides(out, at, bids, shown.bids, asks, shown.asks)
+    put_book(out, at, q, shown)
 }
 
 fn put_quote(out: &mut [u8], at: usize, q: Quote) -> usize {

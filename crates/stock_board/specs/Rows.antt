@@ -8,6 +8,8 @@ use Rattle.amounts.specs.Amounts.{asQuantity}
 use Rattle.amounts.specs.declared.Pair.{Pair}
 use Rattle.stock_quotes.specs.Reveal.{revealed, sideRoom}
 use Rattle.stock_quotes.specs.Quotes.{noPair}
+use Rattle.stock_quotes.specs.declared.Levels.{Levels}
+use Rattle.stock_quotes.specs.declared.Levels.the-variants.{Shown, NotShown}
 use Rattle.stock_quotes.specs.declared.Quote.{Quote}
 use Rattle.stock_board.specs.declared.LastTrade.{LastTrade}
 use Rattle.stock_board.specs.declared.LastTrade.the-variants.{NoneYet, At}
@@ -39,7 +41,12 @@ freeRow = record {
 abbrev pub lastTrade : LastTrade → Pair → ℕ → LastTrade
 lastTrade last sent reveal = cond (eqb (revealed reveal .trades) 0) last (At sent)
 
--- the row behind a message of its stock: the last trade as above, and everything else the message's own
+-- a frame that shows its levels tells both sides, with no level too; one that does not keeps them
+abbrev pub sideAfter : Side → Levels → Side → Side
+sideAfter before Shown shown = shown
+sideAfter before NotShown shown = before
+
+-- the row behind a message of its stock: the last trade and the sides as above, and everything else the message's own
 unfoldable pub rowAfter : Row → Quote → Row
 rowAfter row m = record {
   code = m .code;
@@ -48,6 +55,6 @@ rowAfter row m = record {
   status = m .status;
   total = m .total;
   trade = lastTrade (row .trade) (m .trade) (m .reveal);
-  bids = side (revealed (m .reveal) .bids) (m .bids);
-  asks = side (revealed (m .reveal) .asks) (m .asks);
+  bids = sideAfter (row .bids) (m .levels) (side (revealed (m .reveal) .bids) (m .bids));
+  asks = sideAfter (row .asks) (m .levels) (side (revealed (m .reveal) .asks) (m .asks));
 }

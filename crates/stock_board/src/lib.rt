@@ -1,8 +1,9 @@
 // The board of last quotes, one row to a stock: what a row holds, what a message leaves of it, and what the board's calls answer.
 ghost use mathlib.Core.Path.{_≡_};
-ghost use Rattle.stock_board.specs.Rows.{freeRow, lastTrade, rowAfter};
+ghost use Rattle.stock_board.specs.Rows.{freeRow, lastTrade, sideAfter, rowAfter};
 use amounts::Pair;
 use amounts::Quantity;
+use stock_quotes::Levels;
 use stock_quotes::Quote;
 use stock_quotes::no_pair;
 
@@ -71,6 +72,16 @@ impl LastTrade {
     }
 }
 
+// A side behind a message: the one that it shows, else the one before.
+fn side_after(before: Side, levels: Levels, shown: Side) -> Side
+    ensures { λ r. ⌜ r ≡ sideAfter before levels shown ⌝ }
+{
+    match levels {
+        Levels::Shown => shown,
+        Levels::NotShown => before,
+    }
+}
+
 impl Row {
     // A free row.
     pub fn free() -> Row
@@ -106,16 +117,27 @@ impl Row {
         let sent = m.trade;
         let total = m.total;
         let trade = last.after(sent, m.reveal);
+        let shown = m.levels;
         let levels = m.bids;
-        let bids = Side {
-            count: m.reveal / 16 % 8,
-            levels,
-        };
+        let bids = self.bids;
+        let bids = side_after(
+            bids,
+            shown,
+            Side {
+                count: m.reveal / 16 % 8,
+                levels,
+            },
+        );
         let levels = m.asks;
-        let asks = Side {
-            count: m.reveal / 2 % 8,
-            levels,
-        };
+        let asks = self.asks;
+        let asks = side_after(
+            asks,
+            shown,
+            Side {
+                count: m.reveal / 2 % 8,
+                levels,
+            },
+        );
         Row {
             code,
             time: m.time,

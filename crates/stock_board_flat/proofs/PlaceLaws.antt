@@ -1,33 +1,30 @@
 -- The place that a call finds says what the call is answered with, and what it changes.
-use Prim.Native.Nat.{ℕ, _*_, _≤_, _<_}
+use Prim.Native.Nat.{ℕ, _≤_, _<_}
 use mathlib.Core.Path.{_≡_, refl, sym, ap, _∙_, subst}
 use mathlib.Core.Bool.{Bool, true, false, cond}
 use mathlib.Core.List.{List}
 use native.Mathlib.Omega.{arith}
-use lib.ListN.{length, getD, take, drop}
+use lib.ListN.{length, getD}
 use lib.Dec.{ltb}
 use borrow.Author.Tests.{lt-ltb, le-ltb, ltb-true, ltb-false}
 use Rattle.codes_times.specs.Times.{codeRight, zeroCode}
 use Rattle.stock_frame.specs.Codec.{legal}
 use Rattle.stock_quotes.specs.Quotes.{sixCodec}
 use Rattle.stock_quotes.specs.declared.Quote.{Quote}
-use Rattle.stock_board.specs.declared.LastTrade.{LastTrade}
-use Rattle.stock_board.specs.declared.LastTrade.the-variants.{NoneYet}
 use Rattle.stock_board.specs.declared.Row.{Row}
-use Rattle.stock_board.specs.declared.Asked.{Asked}
 use Rattle.stock_board.specs.declared.Change.{Change}
 use Rattle.stock_board.specs.declared.BoardAnswer.{BoardAnswer}
 use Rattle.stock_board.specs.declared.BoardAnswer.the-variants.{Done, Refused}
 use Rattle.stock_board.specs.Rows.{freeRow, rowAfter}
 use Rattle.stock_board.specs.Board.{unchanged, lastOfDay}
 use Rattle.stock_board_flat.specs.declared.placing.Place.{Place}
-use Rattle.stock_board_flat.specs.Flat.{Flat, whole, headOf, rowFrom, rowsOf, storedAt}
+use Rattle.stock_board_flat.specs.Flat.{Flat, whole, headOf, rowsOf, storedAt}
 use Rattle.stock_board_flat.specs.Calls.{changeFlat, takenFlat, askedFlat, rowAtFlat}
-use Rattle.stock_board_flat.specs.Steps.{flat, firstOf, ofCode, Whole, withTrade, tradeIn, answerBy, foundOf, Shown, Placed, toldOf, Answers, Rows}
+use Rattle.stock_board_flat.specs.Steps.{firstOf, ofCode, rowIn, rowBefore, answerBy, foundOf, Placed, toldOf, Answers, Rows}
 use Rattle.stock_board_flat.proofs.WholeLaws.{whole-long}
 use Rattle.stock_board_flat.proofs.RowLaws.{row-there}
-use Rattle.stock_board_flat.proofs.CallLaws.{asked-not, asked-bytes, asked-zeros, asked-row, asked-none, row-not, row-free, row-used, row-out}
-use Rattle.stock_board_flat.proofs.TakeLaws.{change-not, change-wrong, change-day, change-first, change-new, change-none}
+use Rattle.stock_board_flat.proofs.CallLaws.{asked-row, asked-none, row-used, row-out}
+use Rattle.stock_board_flat.proofs.TakeLaws.{change-first, change-new, change-none}
 
 -- no row
 abbrev nowhere : ℕ → Place
@@ -49,15 +46,6 @@ module _ (code : ℕ) (heads : List ℕ) (own : ℕ) where
     found-none k = rw (← e, le-ltb own 256 h, ← d, le-ltb free 256 k)
 
 -- ---- a message
--- of a row before a message only the last trade counts
-row-by-trade : (row : Row) (m : Quote) → rowAfter (withTrade (row .trade)) m ≡ rowAfter row m
-unfolding rowAfter
-row-by-trade row m = refl
-
-trade-of : (head : ℕ) (cells : List ℕ) → tradeIn cells ≡ rowFrom head cells .trade
-unfolding rowAfter
-trade-of head cells = refl
-
 module _ (f : Flat) (m : Quote) where
   -- no row changes
   pub placed-none : (a : BoardAnswer) (p : Place) → unchanged 256 a ≡ changeFlat f m → answerBy (p .answer) ≡ a → p .at ≡ 256 → Placed f m p
@@ -65,16 +53,18 @@ module _ (f : Flat) (m : Quote) where
     shown = λ k. absurd (omega (arith, h));
     answer-is = e ∙ ap (λ (d : Change). d .answer) c;
     at-is = h ∙ ap (λ (d : Change). d .at) c;
+    right = λ k. absurd (omega (arith, h));
     row-is = λ k. absurd (omega (arith, h));
   }
 
   -- a row changes
-  placed-at : (all : whole f ≡ true) (at : ℕ) (row : Row) (new : Bool) → record { at = at; row = row; answer = Done } ≡ changeFlat f m
-      → rowAfter (withTrade (cond new NoneYet (tradeIn (take 26 (drop (26 * at) (f .cells)))))) m ≡ row → Placed f m (record { at = at; new = new; answer = 0 })
-  placed-at all at row new c e = record {
+  placed-at : (all : whole f ≡ true) (right : legal sixCodec m ≡ true) (at : ℕ) (row : Row) (new : Bool) → record { at = at; row = row; answer = Done } ≡ changeFlat f m
+      → rowAfter (cond new freeRow (rowIn f at)) m ≡ row → Placed f m (record { at = at; new = new; answer = 0 })
+  placed-at all right at row new c e = record {
     shown = λ h. all;
     answer-is = ap (λ (d : Change). d .answer) c;
     at-is = ap (λ (d : Change). d .at) c;
+    right = λ h. right;
     row-is = λ h. e ∙ ap (λ (d : Change). d .row) c;
   }
 
@@ -85,28 +75,25 @@ module _ (f : Flat) (m : Quote) where
     abbrev free : ℕ
     free = firstOf 0 (f .heads)
 
-    old-row : own < 256 → rowAfter (withTrade (tradeIn (take 26 (drop (26 * own) (f .cells))))) m ≡ rowAfter (getD (rowsOf f) own freeRow) m
+    old-row : own < 256 → rowAfter (rowIn f own) m ≡ rowAfter (getD (rowsOf f) own freeRow) m
     old-row h =
-        let cells = take 26 (drop (26 * own) (f .cells)) in
         let there : own < length (f .heads) = omega (arith, whole-long f all .heads-long) in
-        ap (λ (t : LastTrade). rowAfter (withTrade t) m) (trade-of (getD (f .heads) own 0) cells) ∙ row-by-trade (rowFrom (getD (f .heads) own 0) cells) m ∙ ap (λ (row : Row). rowAfter row m) (sym (row-there (f .heads) (f .cells) own freeRow there))
+        ap (λ (row : Row). rowAfter row m) (sym (row-there (f .heads) (f .cells) own freeRow there))
 
     pub placed-found : (code : ℕ) → code ≡ headOf (m .code) 0 0 → Placed f m (foundOf code (f .heads))
     placed-found code e = subst (λ (n : ℕ). Placed f m (foundOf n (f .heads))) (sym e) (go (ltb own 256) refl (ltb free 256) refl)
       where
         go : (t : Bool) → ltb own 256 ≡ t → (u : Bool) → ltb free 256 ≡ u
             → Placed f m (cond t (record { at = own; new = false; answer = 0 }) (cond u (record { at = free; new = true; answer = 0 }) (nowhere 52)))
-        go true p u q = let h = ltb-true own 256 p in placed-at all own _ false (change-first f m all right stock long coded own refl h) (old-row h)
-        go false p true q = placed-at all free _ true (change-new f m all right stock long coded (ltb-false own 256 p) free refl (ltb-true free 256 q)) (row-by-trade freeRow m)
+        go true p u q = let h = ltb-true own 256 p in placed-at all right own _ false (change-first f m all right stock long coded own refl h) (old-row h)
+        go false p true q = placed-at all right free _ true (change-new f m all right stock long coded (ltb-false own 256 p) free refl (ltb-true free 256 q)) refl
         go false p false q = placed-none (Refused 52) (nowhere 52) (change-none f m all right stock long coded (ltb-false own 256 p) (ltb-false free 256 q)) refl refl
 
 -- the lists behind a message that has a row
-pub taken-by : (f : Flat) (m : Quote) (p : Place) → Placed f m p → p .at < 256 → (last : LastTrade) → last ≡ cond (p .new) NoneYet (tradeIn (take 26 (drop (26 * p .at) (f .cells))))
-    → storedAt f (p .at) (rowAfter (withTrade last) m) ≡ takenFlat f m
+pub taken-by : (f : Flat) (m : Quote) (p : Place) → Placed f m p → p .at < 256 → storedAt f (p .at) (rowAfter (rowBefore f p) m) ≡ takenFlat f m
 unfolding takenFlat
-taken-by f m p P h last e =
-    ap (λ (t : LastTrade). storedAt f (p .at) (rowAfter (withTrade t) m)) e ∙ ap (storedAt f (p .at)) (P .row-is h)
-    ∙ ap (λ (k : ℕ). storedAt f k (changeFlat f m .row)) (P .at-is) ∙ rw (P .shown h)
+taken-by f m p P h =
+    ap (storedAt f (p .at)) (P .row-is h) ∙ ap (λ (k : ℕ). storedAt f k (changeFlat f m .row)) (P .at-is) ∙ rw (P .shown h)
 
 -- ---- a question
 module _ (f : Flat) where

@@ -1,6 +1,6 @@
 -- The board as lists of numbers, one to a field: the rows that they hold, and a row put into them.
 use Prim.Native.Nat.{ℕ, _+_, _*_, _/_, _%_}
-use mathlib.Core.Bool.{Bool, cond, _&&_}
+use mathlib.Core.Bool.{Bool, _&&_}
 use mathlib.Core.List.{List, [], _∷_, _++_}
 use lib.ListN.{length, getD, set, take, drop}
 use lib.Seq.{sets}
@@ -8,6 +8,7 @@ use lib.Dec.{eqb}
 use Rattle.amounts.specs.declared.Pair.{Pair}
 use Rattle.words.specs.Words.{bytes}
 use Rattle.stock_quotes.specs.Quotes.{noPair}
+use Rattle.stock_quotes.specs.declared.Levels.the-variants.{Shown}
 use Rattle.stock_quotes.specs.declared.Quote.{Quote}
 use Rattle.stock_quotes_numbers.specs.Numbers.{quoteAmounts, quoteFrom}
 use Rattle.stock_board.specs.declared.LastTrade.{LastTrade}
@@ -40,7 +41,8 @@ headOf code limit status = numberOf (code ++ (limit ∷ status ∷ []))
 abbrev pub marksOf : ℕ → ℕ → List ℕ
 marksOf head shown = take 6 (bytes 8 head) ++ (shown ∷ drop 6 (bytes 8 head))
 
--- a row is kept as the quote that leaves it of a free row: bit 7 of its reveal byte says that there is a last trade
+-- a row is kept as the quote that leaves it of a free row: its levels are shown, and bit 7 of its reveal byte says that there is a
+-- last trade
 abbrev pub pairOf : LastTrade → Pair
 pairOf NoneYet = noPair
 pairOf (At p) = p
@@ -62,11 +64,12 @@ keptOf row = record {
   status = row .status;
   total = row .total;
   trade = pairOf (row .trade);
+  levels = Shown;
   bids = row .bids .levels;
   asks = row .asks .levels;
 }
 
--- the cells: a quote's 23 amounts, what is shown, and the time in two parts, the low one first
+-- the cells: a quote's 23 amounts, what is shown, of which bit 0 counts for nothing, and the time in two parts, the low one first
 abbrev pub half : ℕ
 half = 4294967296
 
@@ -74,7 +77,7 @@ abbrev pub cellsOf : Quote → List ℕ
 cellsOf q = quoteAmounts q ++ (q .reveal ∷ q .time % half ∷ q .time / half ∷ [])
 
 abbrev pub shownIn : List ℕ → ℕ
-shownIn cells = getD cells 23 0 % 256
+shownIn cells = getD cells 23 0 % 256 / 2 * 2
 
 abbrev pub timeIn : List ℕ → ℕ
 timeIn cells = getD cells 24 0 + half * getD cells 25 0

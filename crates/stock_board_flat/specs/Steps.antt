@@ -1,10 +1,14 @@
 -- What the steps of a call hand on to each other.
-use Prim.Native.Nat.{ℕ, suc, _+_, _*_, _%_, _<_}
+use Prim.Native.Nat.{ℕ, suc, _+_, _*_, _/_, _%_, _<_}
 use mathlib.Core.Path.{_≡_}
-use mathlib.Core.Bool.{Bool, true, false, cond}
+use mathlib.Core.Bool.{Bool, true, false, cond, not}
 use mathlib.Core.List.{List, [], _∷_}
 use lib.ListN.{length, getD, take, drop}
 use lib.Dec.{eqb, ltb}
+use Rattle.stock_frame.specs.Codec.{legal}
+use Rattle.stock_quotes.specs.Reveal.{revealed}
+use Rattle.stock_quotes.specs.Quotes.{sixCodec}
+use Rattle.stock_quotes.specs.declared.Levels.{Levels}
 use Rattle.stock_quotes.specs.declared.Quote.{Quote}
 use Rattle.stock_quotes_numbers.specs.Numbers.{pairAt}
 use Rattle.stock_board.specs.declared.LastTrade.{LastTrade}
@@ -13,9 +17,9 @@ use Rattle.stock_board.specs.declared.Row.{Row}
 use Rattle.stock_board.specs.declared.Asked.{Asked}
 use Rattle.stock_board.specs.declared.BoardAnswer.{BoardAnswer}
 use Rattle.stock_board.specs.declared.BoardAnswer.the-variants.{Done, Refused}
-use Rattle.stock_board.specs.Rows.{freeRow, lastTrade, rowAfter}
+use Rattle.stock_board.specs.Rows.{side, freeRow, lastTrade, sideAfter, rowAfter}
 use Rattle.stock_board.specs.Board.{rowCount}
-use Rattle.stock_board_flat.specs.Flat.{Flat, perRow, whole, shownIn, rowsOf}
+use Rattle.stock_board_flat.specs.Flat.{Flat, perRow, whole, pairOf, tradeBit, half, shownIn, rowFrom, rowsOf}
 use Rattle.stock_board_flat.specs.Calls.{changeFlat, askedFlat, rowAtFlat}
 use Rattle.stock_board_flat.specs.declared.placing.Place.{Place}
 
@@ -52,7 +56,7 @@ pub record Whole (f : Flat) : Type 0 where
   pub heads-long : length (f .heads) ≡ rowCount
   pub cells-long : length (f .cells) ≡ rowCount * perRow
 
--- a free row but for its last trade; of a row before a message nothing else counts
+-- a free row but for its last trade; of a row before a message that tells its sides nothing else counts
 abbrev pub withTrade : LastTrade → Row
 withTrade last = record {
   code = freeRow .code;
@@ -68,6 +72,31 @@ withTrade last = record {
 -- the last trade in a row's cells
 abbrev pub tradeIn : List ℕ → LastTrade
 tradeIn cells = lastTrade NoneYet (pairAt cells 1) (shownIn cells)
+
+-- a message's own sides are those of a new row behind it: it shows them, or there are none
+pub record OwnSides (m : Quote) : Type 0 where
+  pub bids-own : sideAfter (freeRow .bids) (m .levels) (side (revealed (m .reveal) .bids) (m .bids)) ≡ side (revealed (m .reveal) .bids) (m .bids)
+  pub asks-own : sideAfter (freeRow .asks) (m .levels) (side (revealed (m .reveal) .asks) (m .asks)) ≡ side (revealed (m .reveal) .asks) (m .asks)
+
+-- a message keeps the sides of the row that it goes to: it does not show its own, and the row is no new one
+abbrev pub keepsSides : Levels → Bool → Bool
+keepsSides Levels.Shown new = false
+keepsSides Levels.NotShown new = not new
+
+-- a row's cells before its levels, and behind them, where the levels stay
+abbrev pub firstCells : LastTrade → Quote → List ℕ
+firstCells trade m = m .total .0 ∷ pairOf trade .price .0 ∷ pairOf trade .quantity .0 ∷ []
+
+abbrev pub lastCells : LastTrade → ℕ → ℕ → List ℕ
+lastCells trade shown time =
+    (128 * tradeBit trade + (16 * (shown / 16 % 8 % 8) + 2 * (shown / 2 % 8 % 8))) ∷ time % half ∷ time / half ∷ []
+
+-- the row at a place, and the one before a message, which is a free one where it is taken anew
+abbrev pub rowIn : Flat → ℕ → Row
+rowIn f at = rowFrom (getD (f .heads) at 0) (take perRow (drop (perRow * at) (f .cells)))
+
+abbrev pub rowBefore : Flat → Place → Row
+rowBefore f p = cond (p .new) freeRow (rowIn f (p .at))
 
 -- the answer of a number
 abbrev pub answerBy : ℕ → BoardAnswer
@@ -89,7 +118,8 @@ pub record Placed (f : Flat) (m : Quote) (p : Place) : Type 0 where
   pub shown : Shown f p
   pub answer-is : answerBy (p .answer) ≡ changeFlat f m .answer
   pub at-is : p .at ≡ changeFlat f m .at
-  pub row-is : p .at < rowCount → rowAfter (withTrade (cond (p .new) NoneYet (tradeIn (take perRow (drop (perRow * p .at) (f .cells)))))) m ≡ changeFlat f m .row
+  pub right : p .at < rowCount → legal sixCodec m ≡ true
+  pub row-is : p .at < rowCount → rowAfter (rowBefore f p) m ≡ changeFlat f m .row
 
 -- what a question is answered with, by a place
 unfoldable pub toldOf : Flat → Place → Asked

@@ -7,15 +7,18 @@ ghost use lib.Dec.{ltb};
 ghost use lib.ListN.{length, getD, take, drop};
 ghost use lib.Seq.{sets};
 ghost use Rattle.stock_board.specs.Rows.{freeRow, rowAfter};
+ghost use Rattle.stock_quotes.specs.declared.Levels.the-variants.{NotShown};
 ghost use Rattle.stock_board.specs.declared.LastTrade.the-variants.{NoneYet};
 ghost use Rattle.stock_board_flat.specs.Flat.{headOf, marksOf, pairOf, tradeBit, keptOf, cellsOf, quoteIn, rowsOf, storedAt};
-ghost use Rattle.stock_board_flat.specs.Steps.{flat, Whole, tradeIn, withTrade};
+ghost use Rattle.stock_board_flat.specs.Steps.{flat, Whole, tradeIn, withTrade, OwnSides, keepsSides, rowIn, firstCells, lastCells, rowBefore};
 use crate::ROWS;
+use crate::placing::Place;
 use amounts::Pair;
 use amounts::Price;
 use amounts::Quantity;
 use stock_board::LastTrade;
 use stock_board::Row;
+use stock_quotes::Levels;
 use stock_quotes::Quote;
 use stock_quotes::no_pair;
 use stock_quotes_numbers::quote_amounts;
@@ -86,7 +89,7 @@ fn quote_from(head: u64, cells: &[u32]) -> Quote
     requires { ⌜ length (now cells) ≡ 26 ⌝ }
     ensures { λ r. ⌜ r ≡ quoteIn head (now (cells .entry)) ⌝ }
 {
-    let marks = marks_of(head, (cells[23] % 256) as u8);
+    let marks = marks_of(head, (cells[23] % 256 / 2 * 2) as u8);
     let time = time_of(cells[24], cells[25]);
     quote_of(0, &marks, time, cells)
 }
@@ -141,6 +144,7 @@ pub fn kept(row: Row) -> Quote
         status: row.status,
         total,
         trade,
+        levels: Levels::Shown,
         bids,
         asks,
     }
@@ -161,7 +165,7 @@ pub(crate) fn row_in(heads: &[u64], cells: &[u32], at: usize) -> Row
 }
 
 // The last trade of the row at a place; none yet where the row is taken anew.
-pub(crate) fn last_trade(cells: &[u32], at: usize, new: bool) -> LastTrade
+fn last_trade(cells: &[u32], at: usize, new: bool) -> LastTrade
     requires { ⌜ (length (now cells) ≡ 6656) × (at < 256) ⌝ }
     ensures { λ r. ⌜ r ≡ cond new NoneYet (tradeIn (take 26 (drop (26 * at) (now (cells .entry))))) ⌝ }
 {
@@ -223,8 +227,9 @@ fn cells_from(n: [u32; 23], trade: Pair, shown: u8, time: u64) -> [u32; 26]
     ]
 }
 
-// The cells of a row behind a message, by its last trade before.
+// The cells of a row behind a message that tells its sides, by its last trade before.
 fn cells_after(last: LastTrade, m: Quote) -> [u32; 26]
+    requires { ⌜ OwnSides m ⌝ }
     ensures { λ r. ⌜ r ≡ cellsOf (keptOf (rowAfter (withTrade last) m)) ⌝ }
 {
     let sent = m.trade;
@@ -233,12 +238,68 @@ fn cells_after(last: LastTrade, m: Quote) -> [u32; 26]
     cells_from(quote_amounts(m), pair_of(trade), shown, m.time)
 }
 
-// Puts the row behind a message at a place, by its last trade before.
-pub(crate) fn put_after(heads: &mut [u64], cells: &mut [u32], at: usize, last: LastTrade, m: Quote)
-    requires { ⌜ Whole (flat (now heads) (now cells)) × (at < 256) ⌝ }
+// Puts the row behind a message that tells its sides at a place, by its last trade before.
+fn put_after(heads: &mut [u64], cells: &mut [u32], at: usize, last: LastTrade, m: Quote)
+    requires { ⌜ Whole (flat (now heads) (now cells)) × (at < 256) × OwnSides m ⌝ }
     ensures { λ _. ⌜ flat (now (heads .exit)) (now (cells .exit)) ≡ storedAt (flat (now (heads .entry)) (now (cells .entry))) at (rowAfter (withTrade last) m) ⌝ }
 {
     let code = m.code;
     heads[at] = head_of(code, m.limit, m.status);
     put(&cells_after(last, m), cells, PER_ROW * at);
+}
+
+// Whether a message keeps the sides of the row that it goes to: it does not show its own, and the row is no new one.
+fn keeps(levels: Levels, new: bool) -> bool
+    ensures { λ r. ⌜ r ≡ keepsSides levels new ⌝ }
+{
+    match levels {
+        Levels::Shown => false,
+        Levels::NotShown => !new,
+    }
+}
+
+// A row's cells before its levels: the total and the last trade.
+fn first_cells(trade: LastTrade, m: Quote) -> [u32; 3]
+    ensures { λ r. ⌜ r ≡ firstCells trade m ⌝ }
+{
+    let pair = pair_of(trade);
+    [m.total.0, pair.price.0, pair.quantity.0]
+}
+
+// Those behind them: what is shown, of the levels as before, and the time.
+fn last_cells(trade: LastTrade, shown: u8, time: u64) -> [u32; 3]
+    ensures { λ r. ⌜ r ≡ lastCells trade shown time ⌝ }
+{
+    let shown = shown_of(trade_bit(trade), shown / 16 % 8, shown / 2 % 8);
+    [shown as u32, (time % HALF) as u32, (time / HALF) as u32]
+}
+
+// Puts the row behind a message that does not show its levels at a place, by its last trade before; the cells of its levels stay.
+fn put_trade(heads: &mut [u64], cells: &mut [u32], at: usize, last: LastTrade, m: Quote)
+    requires { ⌜ Whole (flat (now heads) (now cells)) × (at < 256) × (m .levels ≡ NotShown) × (last ≡ tradeIn (take 26 (drop (26 * at) (now cells)))) ⌝ }
+    ensures { λ _. ⌜ flat (now (heads .exit)) (now (cells .exit)) ≡ storedAt (flat (now (heads .entry)) (now (cells .entry))) at (rowAfter (rowIn (flat (now (heads .entry)) (now (cells .entry))) at) m) ⌝ }
+{
+    let code = m.code;
+    let sent = m.trade;
+    let trade = last.after(sent, m.reveal);
+    let from = PER_ROW * at;
+    let shown = (cells[from + AMOUNTS] % 256) as u8;
+    heads[at] = head_of(code, m.limit, m.status);
+    put(&first_cells(trade, m), cells, from);
+    put(&last_cells(trade, shown, m.time), cells, from + AMOUNTS);
+}
+
+// Puts the row behind a message at the place that was found for it.
+pub(crate) fn put_taken(heads: &mut [u64], cells: &mut [u32], p: Place, m: Quote)
+    requires { ⌜ Whole (flat (now heads) (now cells)) × (p .at < 256) × OwnSides m ⌝ }
+    ensures { λ _. ⌜ flat (now (heads .exit)) (now (cells .exit)) ≡ storedAt (flat (now (heads .entry)) (now (cells .entry))) (p .at) (rowAfter (rowBefore (flat (now (heads .entry)) (now (cells .entry))) p) m) ⌝ }
+{
+    let at = p.at;
+    let levels = m.levels;
+    let last = last_trade(cells, at, p.new);
+    if keeps(levels, p.new) {
+        put_trade(heads, cells, at, last, m);
+        return;
+    }
+    put_after(heads, cells, at, last, m);
 }

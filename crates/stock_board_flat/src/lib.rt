@@ -15,8 +15,7 @@ mod placing;
 use crate::clearing::clear_cells;
 use crate::clearing::clear_heads;
 use crate::finding::count_of;
-use crate::keeping::last_trade;
-use crate::keeping::put_after;
+use crate::keeping::put_taken;
 use crate::keeping::row_in;
 use crate::placing::Place;
 use crate::placing::is_whole;
@@ -62,10 +61,8 @@ pub fn take(heads: &mut [u64], cells: &mut [u32], m: Quote) -> BoardAnswer
     ensures { λ _. ⌜ flat (now (heads .exit)) (now (cells .exit)) ≡ takenFlat (flat (now (heads .entry)) (now (cells .entry))) m ⌝ }
 {
     let p = place_taken(heads, cells, m);
-    let at = p.at;
-    if at < ROWS {
-        let last = last_trade(cells, at, p.new);
-        put_after(heads, cells, at, last, m);
+    if p.at < ROWS {
+        put_taken(heads, cells, p, m);
         return answer_by(p.answer);
     }
     answer_by(p.answer)

@@ -16,6 +16,12 @@ use Rattle.stock_quotes.proofs.timed.Reads as timed-reads
 use Rattle.stock_quotes.proofs.body_length
 use Rattle.stock_quotes.proofs.body_length.Kinds as length-kinds
 use Rattle.stock_quotes.proofs.body_length.Reads as length-reads
+use Rattle.stock_quotes.proofs.Levels.from_byte as levels-from
+use Rattle.stock_quotes.proofs.Levels.from_byte.Kinds as from-kinds
+use Rattle.stock_quotes.proofs.Levels.from_byte.Reads as from-reads
+use Rattle.stock_quotes.proofs.Levels.bit
+use Rattle.stock_quotes.proofs.Levels.bit.Kinds as bit-kinds
+use Rattle.stock_quotes.proofs.Levels.bit.Reads as bit-reads
 use Rattle.stock_quotes.proofs.Reveal.from_byte
 use Rattle.stock_quotes.proofs.Reveal.from_byte.Kinds as byte-kinds
 use Rattle.stock_quotes.proofs.Reveal.from_byte.Reads as byte-reads
@@ -46,3 +52,11 @@ determined-Reveal-from-byte κs a r₁ r₂ s₁ s₂ p q = p ∙ sym q
 pub determined-Reveal-levels-right : (κs : Lifetimes.Lfts 0) (a : World.ArgsD levels_right.signature κs) (r₁ r₂ : World.ResD levels_right.signature κs)
     (s₁ s₂ : Clauses.AtExit (kinds.endedOf 0 levels-kinds.ps levels-kinds.r) κs) → levels-reads.Post κs a r₁ s₁ → levels-reads.Post κs a r₂ s₂ → r₁ ≡ r₂
 determined-Reveal-levels-right κs a r₁ r₂ s₁ s₂ p q = p ∙ sym q
+
+pub determined-Levels-from-byte : (κs : Lifetimes.Lfts 0) (a : World.ArgsD levels-from.signature κs) (r₁ r₂ : World.ResD levels-from.signature κs)
+    (s₁ s₂ : Clauses.AtExit (kinds.endedOf 0 from-kinds.ps from-kinds.r) κs) → from-reads.Post κs a r₁ s₁ → from-reads.Post κs a r₂ s₂ → r₁ ≡ r₂
+determined-Levels-from-byte κs a r₁ r₂ s₁ s₂ p q = p ∙ sym q
+
+pub determined-Levels-bit : (κs : Lifetimes.Lfts 0) (a : World.ArgsD bit.signature κs) (r₁ r₂ : World.ResD bit.signature κs)
+    (s₁ s₂ : Clauses.AtExit (kinds.endedOf 0 bit-kinds.ps bit-kinds.r) κs) → bit-reads.Post κs a r₁ s₁ → bit-reads.Post κs a r₂ s₂ → r₁ ≡ r₂
+determined-Levels-bit κs a r₁ r₂ s₁ s₂ p q = p ∙ sym q

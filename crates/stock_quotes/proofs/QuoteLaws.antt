@@ -1,28 +1,31 @@
 -- Format six is lawful: a quote and its numbers tell each other. So both round trips hold of it.
-use Prim.Native.Nat.{ℕ, _+_, _-_, _*_, _≤_, _<_}
+use Prim.Native.Nat.{ℕ, _+_, _-_, _*_, _%_, _≤_, _<_}
 use mathlib.Core.Path.{_≡_, refl, sym, ap, _∙_, subst}
-use mathlib.Core.Bool.{true, _&&_}
+use mathlib.Core.Bool.{Bool, true}
 use mathlib.Core.List.{List, [], _∷_, _++_}
 use native.Mathlib.Omega.{arith}
-use lib.ListN.{length, getD, take, drop, length-drop}
+use lib.ListN.{length, getD, take, drop, replicate, length-drop}
 use lib.Seq.{getD-take, getD-drop, length-take-le}
 use lib.Dec.{lit<, lit≤}
+use borrow.Author.Tests.{eqb-true, eq-eqb}
 use Rattle.amounts.specs.Amounts.{asQuantity}
 use Rattle.amounts.specs.declared.Pair.{Pair}
-use Rattle.digits.proofs.Bools.{and-left, and-right, and-both}
+use Rattle.digits.proofs.TestLaws.{holds, together, all, _also_}
 use Rattle.layout.specs.Cells.{decode, encode}
 use Rattle.stock_frame.specs.Format.{valuesOf}
 use Rattle.stock_frame.specs.Codec.{legal, frameOf}
 use Rattle.stock_frame.specs.Outline.{own}
 use Rattle.layout.proofs.CellLaws.{length-decode}
 use Rattle.stock_frame.proofs.FormatLaws.{Bodied}
-use Rattle.stock_frame.proofs.CodecLaws.{Lawful, Reads, legal-levels, legal-tidy, read-written, written-read, legal-read}
+use Rattle.stock_frame.proofs.CodecLaws.{Lawful, Reads, legal-levels, legal-tidy, read-written, written-read, shaped-read, legal-read}
+use Rattle.stock_quotes.specs.declared.Levels.{Levels}
+use Rattle.stock_quotes.specs.declared.Levels.the-variants.{NotShown}
 use Rattle.stock_quotes.specs.declared.Quote.{Quote}
 use Rattle.stock_quotes.specs.declared.Reveal.{Reveal}
-use Rattle.stock_quotes.specs.Reveal.{revealed, sideRoom, levelsRight, pairCount}
-use Rattle.stock_quotes.specs.Quotes.{pairCells, sixCells, codeOf, timeOf, revealOf, sixLevels, six, noPair, pairsOf, flat, padded, tradePart, bidPart, askPart, quoteOf, usedPairs, quoteValues, zeroPairs, tidyQuote, sixCodec, ShapedQuote}
-use Rattle.stock_quotes.proofs.RevealLaws.{trades-lt, bids-few, asks-few}
-use Rattle.stock_quotes.proofs.PairLaws.{pairsOf-flat, flat-pairsOf, length-pairsOf, length-pairCells, zero-replicate, take-padded, drop-padded, length-padded, padded-take, trade-kept, trade-zero, trade-part, length-trade, first-part, second-part, third-part, three-parts}
+use Rattle.stock_quotes.specs.Reveal.{levelsOf, levelsBit, revealed, sideRoom, levelsRight, pairCount}
+use Rattle.stock_quotes.specs.Quotes.{pairCells, sixCells, codeOf, timeOf, revealOf, sixLevels, six, noPair, pairsOf, flat, padded, tradePart, bidPart, askPart, quoteOf, usedPairs, quoteValues, zeroPairs, sameLevels, tidyQuote, sixCodec, ShapedQuote, LevelsSaid}
+use Rattle.stock_quotes.proofs.RevealLaws.{trades-lt, bids-few, asks-few, no-bids, no-asks, bit-of, of-bit}
+use Rattle.stock_quotes.proofs.PairLaws.{pairsOf-flat, flat-pairsOf, length-pairsOf, length-pairCells, zero-pairs, zero-replicate, take-padded, drop-padded, length-padded, padded-take, trade-kept, trade-zero, trade-part, length-trade, first-part, second-part, third-part, three-parts}
 
 -- what holds of every list of six holds of a list whose length is six
 pub of-six : (P : List ℕ → Type 0) → ((a b c d e f : ℕ) → P (a ∷ b ∷ c ∷ d ∷ e ∷ f ∷ [])) → (l : List ℕ) → length l ≡ 6 → P l
@@ -53,6 +56,7 @@ quoteWith seq code time r limit status total ps = record {
   status = status;
   total = asQuantity total;
   trade = getD (tradePart (revealed r) ps) 0 noPair;
+  levels = levelsOf r;
   bids = padded (bidPart (revealed r) ps);
   asks = padded (askPart (revealed r) ps);
 }
@@ -97,26 +101,46 @@ module _ (m : Quote) (s : ShapedQuote m) (levels : sixLevels (quoteValues m) ≡
   length-cs : length cs ≡ r .asks
   length-cs = length-take-le (r .asks) (m .asks) (omega (arith, asks-few r level-counts, s .asks-long))
 
-  zeros : zeroPairs (drop (r .bids) (m .bids)) && zeroPairs (drop (r .asks) (m .asks)) ≡ true
-  zeros = and-right (zeroPairs (drop (r .trades) (m .trade ∷ []))) _ tidy
+  abbrev tests : List Bool
+  tests =
+      zeroPairs (drop (r .trades) (m .trade ∷ [])) ∷ zeroPairs (drop (r .bids) (m .bids)) ∷ zeroPairs (drop (r .asks) (m .asks)) ∷ sameLevels m ∷ []
+
+  test : (i : ℕ) → getD tests i true ≡ true
+  test = holds tests tidy
 
   same-trade : getD (tradePart r (ts ++ (bs ++ cs))) 0 noPair ≡ m .trade
   same-trade =
       ap (λ (l : List Pair). getD l 0 noPair) (first-part (r .trades) (r .bids) (r .asks) ts bs cs length-ts length-bs length-cs)
-      ∙ trade-kept (r .trades) one (m .trade) (and-left _ _ tidy)
+      ∙ trade-kept (r .trades) one (m .trade) (test 0)
 
   same-bids : padded (bidPart r (ts ++ (bs ++ cs))) ≡ m .bids
   same-bids =
       ap padded (second-part (r .trades) (r .bids) (r .asks) ts bs cs length-ts length-bs length-cs)
-      ∙ padded-take (m .bids) (r .bids) (s .bids-long) (bids-few r level-counts) (and-left _ _ zeros)
+      ∙ padded-take (m .bids) (r .bids) (s .bids-long) (bids-few r level-counts) (test 1)
 
   same-asks : padded (askPart r (ts ++ (bs ++ cs))) ≡ m .asks
   same-asks =
       ap padded (third-part (r .trades) (r .bids) (r .asks) ts bs cs length-ts length-bs length-cs)
-      ∙ padded-take (m .asks) (r .asks) (s .asks-long) (asks-few r level-counts) (and-right (zeroPairs (drop (r .bids) (m .bids))) _ zeros)
+      ∙ padded-take (m .asks) (r .asks) (s .asks-long) (asks-few r level-counts) (test 2)
 
-  abbrev with : Pair → List Pair → List Pair → Quote
-  with t b a = record {
+  same-levels : levelsOf (m .reveal) ≡ m .levels
+  same-levels = of-bit (m .levels) (m .reveal) (eqb-true (levelsBit (m .levels)) (m .reveal % 2) (test 3))
+
+  -- levels that are not shown are none, so that all of both sides is zero
+  hidden : m .levels ≡ NotShown → r .levels ≡ NotShown
+  hidden e = same-levels ∙ e
+
+  unused : (ps : List Pair) (n : ℕ) → length ps ≡ sideRoom → n ≡ 0 → zeroPairs (drop n ps) ≡ true → ps ≡ replicate sideRoom noPair
+  unused ps n k e z = zero-pairs ps (ap (λ (i : ℕ). zeroPairs (drop i ps)) (sym e) ∙ z) ∙ ap (λ (i : ℕ). replicate i noPair) k
+
+  bids-unused : m .levels ≡ NotShown → (r .bids ≡ 0) × (m .bids ≡ replicate sideRoom noPair)
+  bids-unused e = let n = no-bids r level-counts (hidden e) in (n, unused (m .bids) (r .bids) (s .bids-long) n (test 1))
+
+  asks-unused : m .levels ≡ NotShown → (r .asks ≡ 0) × (m .asks ≡ replicate sideRoom noPair)
+  asks-unused e = let n = no-asks r level-counts (hidden e) in (n, unused (m .asks) (r .asks) (s .asks-long) n (test 2))
+
+  abbrev with : Pair → Levels → List Pair → List Pair → Quote
+  with t l b a = record {
     seq = m .seq;
     code = m .code;
     time = m .time;
@@ -125,6 +149,7 @@ module _ (m : Quote) (s : ShapedQuote m) (levels : sixLevels (quoteValues m) ≡
     status = m .status;
     total = m .total;
     trade = t;
+    levels = l;
     bids = b;
     asks = a;
   }
@@ -132,9 +157,7 @@ module _ (m : Quote) (s : ShapedQuote m) (levels : sixLevels (quoteValues m) ≡
   message-values : quoteOf (m .seq) (quoteValues m) ≡ m
   message-values =
       quoteOf-parts (m .seq) (m .time) (m .reveal) (m .limit) (m .status) (m .total .0) (usedPairs m) (m .code) (s .code-long)
-      ∙ ap (λ (t : Pair). with t (padded (bidPart r (usedPairs m))) (padded (askPart r (usedPairs m)))) same-trade
-      ∙ ap (λ (b : List Pair). with (m .trade) b (padded (askPart r (usedPairs m)))) same-bids
-      ∙ ap (λ (a : List Pair). with (m .trade) (m .bids) a) same-asks
+      ∙ (λ i. with (same-trade i) (same-levels i) (same-bids i) (same-asks i))
 
 -- ---- the numbers of a body give the quote that has them
 module _ (seq k : ℕ) (vs : List ℕ)
@@ -173,10 +196,14 @@ module _ (seq k : ℕ) (vs : List ℕ)
 
   pub tidy-quoteOf : tidyQuote (quoteOf seq vs) ≡ true
   tidy-quoteOf =
-      and-both (trade-zero (q .trades) (trades-lt q (revealOf vs) refl) ps)
-      (and-both
-      (ap zeroPairs (drop-padded (bidPart q ps) (q .bids) length-bidPart) ∙ zero-replicate (sideRoom - length (bidPart q ps)))
-      (ap zeroPairs (drop-padded (askPart q ps) (q .asks) length-askPart) ∙ zero-replicate (sideRoom - length (askPart q ps))))
+      together
+      (zeroPairs (drop (q .trades) (getD (tradePart q ps) 0 noPair ∷ [])) ∷ zeroPairs (drop (q .bids) (padded (bidPart q ps)))
+      ∷ zeroPairs (drop (q .asks) (padded (askPart q ps))) ∷ sameLevels (quoteOf seq vs) ∷ [])
+      (trade-zero (q .trades) (trades-lt q (revealOf vs) refl) ps
+      also (ap zeroPairs (drop-padded (bidPart q ps) (q .bids) length-bidPart) ∙ zero-replicate (sideRoom - length (bidPart q ps)))
+      also (ap zeroPairs (drop-padded (askPart q ps) (q .asks) length-askPart) ∙ zero-replicate (sideRoom - length (askPart q ps)))
+      also eq-eqb (levelsBit (levelsOf (revealOf vs))) (revealOf vs % 2) (bit-of (revealOf vs))
+      also all)
 
   pub shaped-quoteOf : ShapedQuote (quoteOf seq vs)
   shaped-quoteOf = record {
@@ -214,3 +241,13 @@ read-written-quote m s l r = read-written sixCodec ShapedQuote quotes-lawful m s
 -- writing a quote that was read gives its frame's bytes
 pub written-read-quote : (t : List ℕ) (m : Quote) → Reads sixCodec t m → (legal sixCodec m ≡ true) × (frameOf sixCodec m ≡ own t)
 written-read-quote t m rd = (legal-read sixCodec ShapedQuote quotes-lawful t m rd, written-read sixCodec ShapedQuote quotes-lawful t m rd)
+
+-- ---- what a quote says of its levels, one that can be written and one that was read
+pub written-levels : (m : Quote) → ShapedQuote m → legal sixCodec m ≡ true → LevelsSaid m
+written-levels m s l =
+    let right = legal-levels sixCodec m l in
+    let tidy = legal-tidy sixCodec m l in
+    record { as-revealed = same-levels m s right tidy; no-bids = bids-unused m s right tidy; no-asks = asks-unused m s right tidy }
+
+pub read-levels : (t : List ℕ) (m : Quote) → Reads sixCodec t m → LevelsSaid m
+read-levels t m rd = written-levels m (shaped-read sixCodec ShapedQuote quotes-lawful t m rd) (legal-read sixCodec ShapedQuote quotes-lawful t m rd)

@@ -1,5 +1,5 @@
 -- Format six, version 04, 32 to 131 bytes: code 6, time 6, reveal, limit and status byte, total quantity 4, then pairs of price 5 and quantity 4.
-use Prim.Native.Nat.{ℕ, zero, suc, _+_, _-_}
+use Prim.Native.Nat.{ℕ, zero, suc, _+_, _-_, _%_}
 use mathlib.Core.Path.{_≡_}
 use mathlib.Core.Bool.{Bool, cond, _&&_}
 use mathlib.Core.List.{List, [], _∷_, _++_}
@@ -12,10 +12,11 @@ use Rattle.layout.specs.Checks.{firstFail}
 use Rattle.stock_frame.specs.Format.{Format, valuesOf, bodyChecks, bodyAnswer}
 use Rattle.codes_times.specs.Times.{timeOfDay, nines, every, codeRight, zeroCode}
 use Rattle.stock_frame.specs.Codec.{Codec}
+use Rattle.stock_quotes.specs.declared.Levels.the-variants.{Shown, NotShown}
 use Rattle.stock_quotes.specs.declared.Quote.{Quote}
 use Rattle.stock_quotes.specs.declared.QuoteReading.{QuoteReading}
 use Rattle.stock_quotes.specs.declared.Reveal.{Reveal}
-use Rattle.stock_quotes.specs.Reveal.{revealed, sideRoom, levelsRight, pairCount}
+use Rattle.stock_quotes.specs.Reveal.{levelsOf, levelsBit, revealed, sideRoom, levelsRight, pairCount}
 
 -- n pairs of a price and a quantity
 unfoldable pub pairCells : ℕ → List Cell
@@ -119,6 +120,7 @@ quoteOf seq vs =
       status = getD vs 9 0;
       total = asQuantity (getD vs 10 0);
       trade = getD (tradePart r ps) 0 noPair;
+      levels = r .levels;
       bids = padded (bidPart r ps);
       asks = padded (askPart r ps);
     }
@@ -132,15 +134,18 @@ usedPairs m =
 abbrev pub quoteValues : Quote → List ℕ
 quoteValues m = m .code ++ (m .time ∷ m .reveal ∷ m .limit ∷ m .status ∷ m .total .0 ∷ flat (usedPairs m))
 
--- the unused pairs are zero
+-- the unused pairs are zero, and the levels are shown or not as the reveal byte says
 abbrev pub zeroPairs : List Pair → Bool
 zeroPairs ps = every (eqb 0) (flat ps)
+
+abbrev pub sameLevels : Quote → Bool
+sameLevels m = eqb (levelsBit (m .levels)) (m .reveal % 2)
 
 abbrev pub tidyQuote : Quote → Bool
 tidyQuote m =
     let r = revealed (m .reveal) in
     zeroPairs (drop (r .trades) (m .trade ∷ []))
-    && (zeroPairs (drop (r .bids) (m .bids)) && zeroPairs (drop (r .asks) (m .asks)))
+    && (zeroPairs (drop (r .bids) (m .bids)) && (zeroPairs (drop (r .asks) (m .asks)) && sameLevels m))
 
 abbrev pub sixCodec : Codec Quote
 sixCodec = record {
@@ -158,6 +163,12 @@ pub record ShapedQuote (m : Quote) : Type 0 where
   pub bids-long : length (m .bids) ≡ sideRoom
   pub asks-long : length (m .asks) ≡ sideRoom
 
+-- what a quote says of its levels: what bit 0 of its reveal byte says, and where they are not shown that there are none of either side
+pub record LevelsSaid (m : Quote) : Type 0 where
+  pub as-revealed : levelsOf (m .reveal) ≡ m .levels
+  pub no-bids : m .levels ≡ NotShown → (revealed (m .reveal) .bids ≡ 0) × (m .bids ≡ replicate sideRoom noPair)
+  pub no-asks : m .levels ≡ NotShown → (revealed (m .reveal) .asks ≡ 0) × (m .asks ≡ replicate sideRoom noPair)
+
 -- the empty quote, which stands beside a refusal
 abbrev pub noQuote : Quote
 noQuote = record {
@@ -169,6 +180,7 @@ noQuote = record {
   status = 0;
   total = asQuantity 0;
   trade = noPair;
+  levels = Shown;
   bids = replicate sideRoom noPair;
   asks = replicate sideRoom noPair;
 }

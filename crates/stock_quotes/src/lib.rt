@@ -1,12 +1,18 @@
 // Format six, live quotes: the message, what its reveal byte shows, and the rules that reading and writing share.
 ghost use mathlib.Core.Path.{_≡_};
 ghost use Prim.Native.Nat.{_+_, _*_};
-ghost use Rattle.stock_quotes.specs.Reveal.{revealed, levelsRight};
+ghost use Rattle.stock_quotes.specs.Reveal.{levelsOf, levelsBit, revealed, levelsRight};
 ghost use Rattle.stock_quotes.specs.Quotes.{bodyLength, quoteTimed, noPair, noQuote};
 use amounts::Pair;
 use amounts::Price;
 use amounts::Quantity;
 use answers::Answer;
+
+// What a frame says of the levels of both sides: that they are those which it lists, none too; or nothing, only the trade is sent.
+pub enum Levels {
+    Shown,
+    NotShown,
+}
 
 // A stock's quote. Its own reveal byte says which of the trade, the bids and the asks are used; the others are zero.
 pub struct Quote {
@@ -19,6 +25,8 @@ pub struct Quote {
     pub status: u8,
     pub total: Quantity,
     pub trade: Pair,
+    // as bit 0 of the reveal byte says
+    pub levels: Levels,
     // best first
     pub bids: [Pair; 5],
     pub asks: [Pair; 5],
@@ -30,11 +38,34 @@ pub struct QuoteReading {
     pub quote: Quote,
 }
 
-// What a reveal byte shows: how many trades, 0 or 1, and how many levels of each side.
+// What a reveal byte shows: how many trades, 0 or 1, how many levels of each side, and whether levels are shown at all.
 pub struct Reveal {
     pub trades: usize,
     pub bids: usize,
     pub asks: usize,
+    pub levels: Levels,
+}
+
+impl Levels {
+    // What bit 0 of a reveal byte says.
+    pub fn from_byte(byte: u8) -> Levels
+        ensures { λ r. ⌜ r ≡ levelsOf byte ⌝ }
+    {
+        if byte % 2 == 0 {
+            return Levels::Shown;
+        }
+        Levels::NotShown
+    }
+
+    // The bit that says so.
+    pub fn bit(self) -> u8
+        ensures { λ r. ⌜ r ≡ levelsBit self ⌝ }
+    {
+        match self {
+            Levels::Shown => 0,
+            Levels::NotShown => 1,
+        }
+    }
 }
 
 impl Reveal {
@@ -49,17 +80,25 @@ impl Reveal {
             trades: (byte / 128 % 2) as usize,
             bids: (byte / 16 % 8) as usize,
             asks: (byte / 2 % 8) as usize,
+            levels: Levels::from_byte(byte),
         }
     }
 
-    // Check 10: no side has more levels than it may.
+    // Check 10: no side has more levels than it may, nor any where levels are not shown.
     pub fn levels_right(self) -> bool
         ensures { λ r. ⌜ r ≡ levelsRight self ⌝ }
     {
         if Reveal::MOST_LEVELS < self.bids {
             return false;
         }
-        self.asks <= Reveal::MOST_LEVELS
+        if Reveal::MOST_LEVELS < self.asks {
+            return false;
+        }
+        let levels = self.levels;
+        match levels {
+            Levels::Shown => true,
+            Levels::NotShown => self.bids + self.asks == 0,
+        }
     }
 }
 
@@ -110,6 +149,7 @@ pub fn empty() -> Quote
         status: 0,
         total: Quantity(0),
         trade: none,
+        levels: Levels::Shown,
         bids: [none; 5],
         asks: [none; 5],
     }

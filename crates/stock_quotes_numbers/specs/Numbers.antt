@@ -5,7 +5,7 @@ use lib.ListN.{getD}
 use Rattle.amounts.specs.Amounts.{asQuantity}
 use Rattle.amounts.specs.declared.Pair.{Pair}
 use Rattle.codes_times.specs.Times.{codeAt}
-use Rattle.stock_quotes.specs.Reveal.{sideRoom}
+use Rattle.stock_quotes.specs.Reveal.{levelsOf, sideRoom}
 use Rattle.stock_quotes.specs.Quotes.{pair, flat}
 use Rattle.stock_quotes.specs.declared.Quote.{Quote}
 
@@ -25,7 +25,7 @@ abbrev pub pairsAt : List ℕ → ℕ → ℕ → List Pair
 pairsAt amounts zero at = []
 pairsAt amounts (suc k) at = pairAt amounts at ∷ pairsAt amounts k (at + 2)
 
--- the quote of a number, such bytes, a time and such amounts
+-- the quote of a number, such bytes, a time and such amounts; its levels are shown or not as its reveal byte says
 abbrev pub quoteFrom : ℕ → List ℕ → ℕ → List ℕ → Quote
 quoteFrom seq bytes time amounts = record {
   seq = seq;
@@ -36,6 +36,7 @@ quoteFrom seq bytes time amounts = record {
   status = getD bytes 8 0;
   total = asQuantity (getD amounts 0 0);
   trade = pairAt amounts 1;
+  levels = levelsOf (getD bytes 6 0);
   bids = pairsAt amounts sideRoom 3;
   asks = pairsAt amounts sideRoom 13;
 }

@@ -7,6 +7,7 @@ use amounts::Pair;
 use amounts::Price;
 use amounts::Quantity;
 use codes_times::code_at;
+use stock_quotes::Levels;
 use stock_quotes::Quote;
 
 pub mod whole;
@@ -123,6 +124,7 @@ pub fn quote_of(seq: u32, bytes: &[u8], time: u64, amounts: &[u32]) -> Quote
         status: byte_at(bytes, 8),
         total: Quantity(amount_at(amounts, 0)),
         trade,
+        levels: Levels::from_byte(byte_at(bytes, 6)),
         bids,
         asks,
     }

@@ -6,6 +6,7 @@ use crate::byte_at;
 use crate::pair_at;
 use amounts::Quantity;
 use codes_times::code_at;
+use stock_quotes::Levels;
 use stock_quotes::Quote;
 
 // The quote of a number, nine bytes, a time and 23 amounts.
@@ -37,6 +38,7 @@ pub fn whole_quote(seq: u32, bytes: &[u8; 9], time: u64, amounts: &[u32; 23]) ->
         status: byte_at(bytes, 8),
         total: Quantity(amount_at(amounts, 0)),
         trade,
+        levels: Levels::from_byte(byte_at(bytes, 6)),
         bids,
         asks,
     }

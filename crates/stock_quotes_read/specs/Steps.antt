@@ -11,7 +11,7 @@ use Rattle.amounts.specs.declared.Quantity.{Quantity}
 use Rattle.answers.specs.declared.Answer.the-variants.{Accepted, Refused}
 use Rattle.stock_quotes.specs.declared.QuoteReading.{QuoteReading}
 use Rattle.stock_quotes.specs.declared.Reveal.{Reveal}
-use Rattle.stock_quotes.specs.Reveal.{revealed, sideRoom, levelsRight, pairCount}
+use Rattle.stock_quotes.specs.Reveal.{levelsOf, revealed, sideRoom, levelsRight, pairCount}
 use Rattle.stock_quotes.specs.Quotes.{noPair, noQuote, pairsIn, padded, revealPlace}
 
 -- a refusal with its number and the whole frame's length
@@ -31,6 +31,7 @@ acceptedReading seq b time total trade bids asks = record {
     status = getD b 14 0;
     total = total;
     trade = trade;
+    levels = levelsOf (getD b 12 0);
     bids = bids;
     asks = asks;
   };

@@ -13,6 +13,7 @@ use amounts::Quantity;
 use amounts::QuantityField;
 use answers::Answer;
 use answers::Frame;
+use stock_quotes::Levels;
 use stock_quotes::Quote;
 use stock_quotes::QuoteReading;
 use stock_quotes::Reveal;
@@ -149,6 +150,7 @@ fn accepted(body: &[u8], seq: u32, p: Fixed, sides: Sides) -> QuoteReading
             status: body[14],
             total: total,
             trade: trade,
+            levels: Levels::from_byte(body[12]),
             bids: bids,
             asks: asks,
         },

@@ -21,7 +21,7 @@ use Rattle.stock_frame.proofs.CodecLaws.{legal-seq, legal-levels, legal-fits, l
 use Rattle.stock_quotes.specs.declared.Quote.{Quote}
 use Rattle.stock_quotes.specs.declared.Reveal.{Reveal}
 use Rattle.stock_quotes.specs.Reveal.{revealed, levelsRight, pairCount}
-use Rattle.stock_quotes.specs.Quotes.{pairCells, sixCells, codeOf, timeOf, revealOf, sixLevels, quoteTimed, sixTimed, sixRuled, six, flat, usedPairs, quoteValues, zeroPairs, sixCodec, ShapedQuote}
+use Rattle.stock_quotes.specs.Quotes.{pairCells, sixCells, codeOf, timeOf, revealOf, sixLevels, quoteTimed, sixTimed, sixRuled, six, flat, usedPairs, quoteValues, zeroPairs, sameLevels, sixCodec, ShapedQuote}
 use Rattle.stock_quotes.proofs.RevealLaws.{bids-few, asks-few}
 use Rattle.stock_quotes.proofs.TimeLaws.{timed-small}
 use Rattle.stock_quotes.proofs.PairLaws.{size-six, length-trade}
@@ -169,18 +169,19 @@ module _ (m : Quote) (shaped : ShapedQuote m) where
 
   -- ---- the tests that the code makes tell what is legal, and back
   abbrev pub tests : List Bool
-  tests = leb (m .seq) 99999999 ∷ quoteTimed (m .code) (m .time) ∷ codeRight (m .code) ∷ leb (m .total .0) 99999999 ∷ pairsRight r m ∷ []
+  tests = leb (m .seq) 99999999 ∷ quoteTimed (m .code) (m .time) ∷ codeRight (m .code) ∷ leb (m .total .0) 99999999 ∷ sameLevels m ∷ pairsRight r m ∷ []
 
   pub tests-of : legal sixCodec m ≡ true → allOf tests ≡ true
   tests-of l =
       let levels : levelsRight r ≡ true = sym levels-told ∙ legal-levels sixCodec m l in
       let fit = holds (ltb (m .time) (10 ^ 12) ∷ ltb (m .total .0) (10 ^ 8) ∷ tf ∷ bf ∷ cf ∷ []) (sym (fits-told levels) ∙ legal-fits sixCodec m l) in
-      let zero = holds (tz ∷ bz ∷ cz ∷ []) (legal-tidy sixCodec m l) in
+      let zero = holds (tz ∷ bz ∷ cz ∷ sameLevels m ∷ []) (legal-tidy sixCodec m l) in
       together tests
       (le-leb (m .seq) 99999999 (omega (arith, legal-seq sixCodec m l))
       also (sym timed-told ∙ legal-timed sixCodec m l)
       also (sym ruled-told ∙ legal-ruled sixCodec m l)
       also le-leb (m .total .0) 99999999 (omega (arith, ltb-true (m .total .0) (10 ^ 8) (fit 1)))
+      also zero 3
       also all-pairs r m
       (levels
       also (trade-is levels ∙ and-both (fit 2) (zero 0))
@@ -192,7 +193,7 @@ module _ (m : Quote) (shaped : ShapedQuote m) where
   of-tests : allOf tests ≡ true → legal sixCodec m ≡ true
   of-tests h =
       let test = holds tests h in
-      let part = each-pair r m (test 4) in
+      let part = each-pair r m (test 5) in
       let levels = part 0 in
       let t = both-true tf tz (sym (trade-is levels) ∙ part 1) in
       let b = both-true bf bz (sym (bids-is levels) ∙ part 2) in
@@ -201,7 +202,7 @@ module _ (m : Quote) (shaped : ShapedQuote m) where
       let total-fits = leb-true (m .total .0) 99999999 (test 3) in
       together
       (ltb (m .seq) (10 ^ 8) ∷ ranged six (size (sixCells (pairCount r))) ∷ sixLevels (quoteValues m) ∷ fits (sixCells (pairCount r)) (quoteValues m)
-      ∷ sixTimed (quoteValues m) ∷ sixRuled (quoteValues m) ∷ tz ∷ bz ∷ cz ∷ [])
+      ∷ sixTimed (quoteValues m) ∷ sixRuled (quoteValues m) ∷ tz ∷ bz ∷ cz ∷ sameLevels m ∷ [])
       (lt-ltb (m .seq) (10 ^ 8) (omega arith)
       also in-range levels
       also (levels-told ∙ levels)
@@ -210,7 +211,7 @@ module _ (m : Quote) (shaped : ShapedQuote m) where
       (lt-ltb (m .time) (10 ^ 12) (timed-small (m .code) (m .time) (test 1)) also lt-ltb (m .total .0) (10 ^ 8) (omega arith) also t .0 also b .0 also a .0 also all))
       also (timed-told ∙ test 1)
       also (ruled-told ∙ test 2)
-      also t .1 also b .1 also a .1 also all)
+      also t .1 also b .1 also a .1 also test 4 also all)
 
   legal-told : allOf tests ≡ legal sixCodec m
   legal-told = same (allOf tests) (legal sixCodec m) of-tests tests-of
@@ -218,5 +219,6 @@ module _ (m : Quote) (shaped : ShapedQuote m) where
   pub illegal : (i : ℕ) → getD tests i true ≡ false → false ≡ legal sixCodec m
   illegal i e = fails tests i e ∙ legal-told
 
-  pub pairs-last : m .seq ≤ 99999999 → quoteTimed (m .code) (m .time) ≡ true → codeRight (m .code) ≡ true → m .total .0 ≤ 99999999 → pairsRight r m ≡ legal sixCodec m
-  pairs-last s t c q = sym (λ i. le-leb (m .seq) 99999999 s i && (t i && (c i && (le-leb (m .total .0) 99999999 q i && pairsRight r m)))) ∙ legal-told
+  pub pairs-last : m .seq ≤ 99999999 → quoteTimed (m .code) (m .time) ≡ true → codeRight (m .code) ≡ true → m .total .0 ≤ 99999999
+      → sameLevels m ≡ true → pairsRight r m ≡ legal sixCodec m
+  pairs-last s t c q e = sym (λ i. le-leb (m .seq) 99999999 s i && (t i && (c i && (le-leb (m .total .0) 99999999 q i && (e i && pairsRight r m))))) ∙ legal-told

@@ -72,7 +72,7 @@ module _ (m : Quote) (shaped : ShapedQuote m) where
     test = holds (tests m shaped) (tests-of m shaped l)
 
     part : (i : ℕ) → getD (pairTests (revealed (m .reveal)) m) i true ≡ true
-    part = each-pair (revealed (m .reveal)) m (test 4)
+    part = each-pair (revealed (m .reveal)) m (test 5)
 
     -- ---- the whole frame: n is the length that the code finds
     module _ (buf : List ℕ) (n : ℕ) (whole : n ≡ around + bodyLength (m .reveal)) where

@@ -104,6 +104,10 @@ pub fn is_legal(m: Quote) -> bool
     if Quantity::MOST < m.total.0 {
         return false;
     }
+    let levels = m.levels;
+    if levels.bit() != m.reveal % 2 {
+        return false;
+    }
     pairs_right(m, Reveal::from_byte(m.reveal))
 }
 

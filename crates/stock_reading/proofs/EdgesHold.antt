@@ -1,10 +1,10 @@
--- The starred edges hold, by computation.
+-- The edges hold, by computation.
 use mathlib.Core.Path.{refl}
 use Rattle.stock_quotes.specs.Reveal.{levelsRight}
 use Rattle.stock_quotes.specs.Quotes.{pairCells}
 use Rattle.stock_prices.specs.Prices.{slotsCells}
 use Rattle.stock_reading.specs.Reading.{formatOf, checks, answerOf, messageBy}
-use Rattle.stock_reading.specs.Edges.{Edges}
+use Rattle.stock_reading.specs.Edges.{Edges, LevelEdges}
 
 pub edges-hold : Edges
 unfolding formatOf checks answerOf messageBy levelsRight pairCells slotsCells
@@ -26,4 +26,18 @@ edges-hold = record {
   reveal-DA = refl;
   reveal-00 = refl;
   reveal-60 = refl;
+}
+
+pub level-edges-hold : LevelEdges
+unfolding formatOf checks answerOf messageBy levelsRight pairCells slotsCells
+level-edges-hold = record {
+  reveal-81 = refl;
+  reveal-81-hides = refl;
+  reveal-01 = refl;
+  reveal-01-hides = refl;
+  reveal-00-shows = refl;
+  reveal-A3 = refl;
+  reveal-A3-longer = refl;
+  reveal-11 = refl;
+  reveal-03 = refl;
 }

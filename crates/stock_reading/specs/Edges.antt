@@ -1,4 +1,4 @@
--- The starred edges of the owner's paper that concern frames, as one list.
+-- The starred edges of the owner's paper that concern frames, as one list; and those of levels that are not shown.
 use Prim.Native.Nat.{ℕ, _+_}
 use mathlib.Core.Path.{_≡_}
 use mathlib.Core.List.{List, [], _∷_}
@@ -7,6 +7,8 @@ use Rattle.stock_frame.specs.Writing.{frameAround}
 use Rattle.answers.specs.declared.Answer.the-variants.{Accepted, NoFrame, Refused}
 use Rattle.stock_notices.specs.Notices.{fiveCodec, noNotice}
 use Rattle.stock_quotes.specs.Reveal.{revealed, pairCount}
+use Rattle.stock_quotes.specs.Quotes.{sixCodec, noQuote}
+use Rattle.stock_quotes.specs.declared.Levels.the-variants.{Shown, NotShown}
 use Rattle.stock_halts.specs.Halts.{nineteenCodec, noHalt}
 use Rattle.stock_halts.specs.declared.Event.the-variants.{Halted}
 use Rattle.stock_halts.specs.declared.Resume.the-variants.{Open}
@@ -48,3 +50,15 @@ pub record Edges : Type 0 where
   pub reveal-DA : answerOf (quote 0xDA 99) ≡ Accepted (record { format = 6; seq = 1; length = 131 })
   pub reveal-00 : answerOf (quote 0x00 0) ≡ Accepted (record { format = 6; seq = 1; length = 32 })
   pub reveal-60 : answerOf (quote 0x60 54) ≡ Refused 10 86
+
+-- bit 0 of the reveal byte: levels that are not shown, with a trade and without; none, which is another message; and check 10, whatever the length
+pub record LevelEdges : Type 0 where
+  pub reveal-81 : answerOf (quote 0x81 9) ≡ Accepted (record { format = 6; seq = 1; length = 41 })
+  pub reveal-81-hides : messageBy sixCodec noQuote (quote 0x81 9) .levels ≡ NotShown
+  pub reveal-01 : answerOf (quote 0x01 0) ≡ Accepted (record { format = 6; seq = 1; length = 32 })
+  pub reveal-01-hides : messageBy sixCodec noQuote (quote 0x01 0) .levels ≡ NotShown
+  pub reveal-00-shows : messageBy sixCodec noQuote (quote 0x00 0) .levels ≡ Shown
+  pub reveal-A3 : answerOf (quote 0xA3 36) ≡ Refused 10 68
+  pub reveal-A3-longer : answerOf (quote 0xA3 45) ≡ Refused 10 77
+  pub reveal-11 : answerOf (quote 0x11 9) ≡ Refused 10 41
+  pub reveal-03 : answerOf (quote 0x03 9) ≡ Refused 10 41

@@ -17,6 +17,7 @@ use stock_halts::Sending;
 use stock_notices::Notice;
 use stock_prices::Prices;
 use stock_prices::Slot;
+use stock_quotes::Levels;
 use stock_quotes::Quote;
 use stock_quotes::Reveal;
 
@@ -85,15 +86,28 @@ fn put_trade(out: &mut [u8], at: usize, trade: Pair, is_sent: bool) -> usize {
     put_all(out, at, b" -")
 }
 
+fn put_sides(out: &mut [u8], at: usize, q: Quote, shown: Reveal) -> usize {
+    let bids = q.bids;
+    let asks = q.asks;
+    let at = put_side(out, at, b" bids", bids, shown.bids);
+    put_side(out, at, b" asks", asks, shown.asks)
+}
+
+// Both sides, or that they are not shown.
+fn put_book(out: &mut [u8], at: usize, q: Quote, shown: Reveal) -> usize {
+    let levels = q.levels;
+    match levels {
+        Levels::Shown => put_sides(out, at, q, shown),
+        Levels::NotShown => put_all(out, at, b" levels not shown"),
+    }
+}
+
 // What the reveal byte lets stand.
 fn put_pairs(out: &mut [u8], at: usize, q: Quote) -> usize {
     let trade = q.trade;
-    let bids = q.bids;
-    let asks = q.asks;
     let shown = Reveal::from_byte(q.reveal);
     let at = put_trade(out, at, trade, 0 < shown.trades);
-    let at = put_side(out, at, b" bids", bids, shown.bids);
-    put_side(out, at, b" asks", asks, shown.asks)
+    put_book(out, at, q, shown)
 }
 
 // The three bytes of flags and the day's total.

@@ -51,9 +51,17 @@ byte-at-requires-3 c κs = search needs
 amount-at-requires : tie.Need-amount-at-requires
 amount-at-requires c κs = search needs
 
+byte-at-requires-4 : tie.Need-byte-at-requires-4
+byte-at-requires-4 c κs = search needs
+
+from-byte-requires : tie.Need-from-byte-requires
+from-byte-requires c κs = search needs
+
 returns : tie.Need-returns
 returns c =
-    let k0 = c .before in
+    let y = c .before in
+    let k = y .before in
+    let k0 = k .before in
     let k1 = k0 .before in
     let k2 = k1 .before in
     let k3 = k2 .before in
@@ -69,7 +77,9 @@ returns c =
     let k13 = k12 .before in
     let k14 = k13 .before in
     simp (
-      c .amount-at .ensures,
+      c .from-byte .ensures,
+      y .byte-at4 .ensures,
+      k .amount-at .ensures,
       k0 .byte-at3 .ensures,
       k1 .byte-at2 .ensures,
       k2 .byte-at .ensures,
@@ -107,4 +117,6 @@ quote-of-spec =
     byte-at-requires-2
     byte-at-requires-3
     amount-at-requires
+    byte-at-requires-4
+    from-byte-requires
     returns)

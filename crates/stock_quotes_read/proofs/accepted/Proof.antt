@@ -33,11 +33,17 @@ shared-slice-read-t21 c = search needs
 shared-slice-read-t23 : tie.Need-shared-slice-read-t23
 shared-slice-read-t23 c = search needs
 
+shared-slice-read-from-byte : tie.Need-shared-slice-read-from-byte
+shared-slice-read-from-byte c = search needs
+
+from-byte-requires : tie.Need-from-byte-requires
+from-byte-requires c κs = search needs
+
 returns : tie.Need-returns
 returns c =
-    let k = c .before .before .before .before .before .before .before .before .before in
+    let k = c .before .before .before .before .before .before .before .before .before .before .before in
     let z = k .before .before in
-    rw (k .code-at .ensures ∙ code-in (z .args .body .now) 0 (omega arith))
+    rw (k .code-at .ensures ∙ code-in (z .args .body .now) 0 (omega arith), c .from-byte .ensures)
 
 pub accepted-spec : {M : Type 1} → statement M
 accepted-spec =
@@ -52,4 +58,6 @@ accepted-spec =
     shared-slice-read-t19
     shared-slice-read-t21
     shared-slice-read-t23
+    shared-slice-read-from-byte
+    from-byte-requires
     returns)

@@ -1,9 +1,10 @@
 -- `is_legal` meets its contract: one test after the other.
-use Prim.Native.Nat.{_≤_}
+use Prim.Native.Nat.{ℕ, _%_}
 use mathlib.Core.Path.{_≡_, sym, ap, _∙_}
 use mathlib.Core.Bool.{true}
 use lib.ListN.{length}
-use borrow.Author.Tests.{lt-leb, not-true, not-false}
+use lib.Dec.{eqb}
+use borrow.Author.Tests.{lt-leb, eq-eqb, ne-eqb, not-true, not-false}
 use Rattle.codes_times.specs.Times.{codeRight}
 use Rattle.stock_quotes.specs.declared.Reveal.{Reveal}
 use Rattle.stock_quotes.specs.Quotes.{quoteTimed, ShapedQuote}
@@ -40,6 +41,10 @@ timed k = k .before .before
 code-ok : (k : tie.Else3) → codeRight (start (numbered (timed (k .before) .before) .before) .args .m .code) ≡ true
 code-ok k = sym (k .before .code-right .ensures) ∙ not-false _ (k .if3 .left)
 
+-- ---- where the total is tried
+abbrev all-before : tie.Else4 → tie.Start
+all-before k = start (numbered (timed (k .before .before .before) .before) .before)
+
 returns : tie.Need-returns
 returns c =
     let s = start (c .before) in
@@ -72,16 +77,27 @@ returns-4 c =
     let s = start (numbered (timed (c .before .before .before) .before) .before) in
     illegal (s .args .m) (shaped s) 3 (lt-leb (s .args .m .total .0) 99999999 (c .if4 .taken))
 
+bit-requires : tie.Need-bit-requires
+bit-requires c κs = search needs
+
+returns-5 : tie.Need-returns-5
+returns-5 c =
+    let y = c .before .before in
+    let s = all-before (y .before) in
+    illegal (s .args .m) (shaped s) 4 (ap (λ (x : ℕ). eqb x (s .args .m .reveal % 2)) (sym (y .bit .ensures)) ∙ ne-eqb _ _ (c .if5 .taken))
+
 from-byte-requires : tie.Need-from-byte-requires
 from-byte-requires c κs = search needs
 
 pairs-right-requires : tie.Need-pairs-right-requires
 pairs-right-requires c κs = search needs
 
-returns-5 : tie.Need-returns-5
-returns-5 c =
+returns-6 : tie.Need-returns-6
+returns-6 c =
     let b = c .before in
-    let q = b .before in
+    let z = b .before in
+    let y = z .before .before in
+    let q = y .before in
     let e = q .before .before in
     let t = timed (e .before) in
     let n = numbered (t .before) in
@@ -89,6 +105,7 @@ returns-5 c =
     let m = s .args .m in
     c .pairs-right .ensures ∙ ap (λ (r : Reveal). pairsRight r m) (b .from-byte .ensures)
     ∙ pairs-last m (shaped s) (n .if1 .left) (time-ok t) (code-ok e) (q .if4 .left)
+    (ap (λ (x : ℕ). eqb x (m .reveal % 2)) (sym (y .bit .ensures)) ∙ eq-eqb _ _ (z .if5 .left))
 
 pub is-legal-spec : {M : Type 1} → statement M
 is-legal-spec =
@@ -102,6 +119,8 @@ is-legal-spec =
     code-right-requires
     returns-3
     returns-4
+    bit-requires
+    returns-5
     from-byte-requires
     pairs-right-requires
-    returns-5)
+    returns-6)

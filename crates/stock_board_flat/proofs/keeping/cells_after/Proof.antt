@@ -30,9 +30,10 @@ returns c =
     let s = n .before in
     let b = s .before .before .before in
     let t = b .before in
-    let a = t .before .before .args in
+    let z = t .before .before in
+    let a = z .args in
     c .cells-from .ensures
-    ∙ cells-made (a .last) (t .after .result) (a .m) (n .quote-amounts .result) (b .trade-bit .result) (s .shown-of .result) (p .pair-of .result) (t .after .ensures) (n .quote-amounts .ensures) (p .pair-of .ensures)
+    ∙ cells-made (a .last) (t .after .result) (a .m) (z .pre) (n .quote-amounts .result) (b .trade-bit .result) (s .shown-of .result) (p .pair-of .result) (t .after .ensures) (n .quote-amounts .ensures) (p .pair-of .ensures)
     (b .trade-bit .ensures .0) (s .shown-of .ensures)
 
 pub cells-after-spec : {M : Type 1} → statement M

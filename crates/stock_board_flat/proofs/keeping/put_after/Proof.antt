@@ -1,5 +1,5 @@
 -- `keeping::put_after` meets its contract.
-use Rattle.stock_board_flat.specs.Steps.{flat}
+use Rattle.stock_board_flat.specs.Steps.{flat, withTrade}
 use Rattle.stock_board_flat.proofs.StoreLaws.{stored-by}
 use borrow.Author.Needs.{needs}
 use Rattle.stock_board_flat.proofs.keeping.put_after.Statement.{statement}
@@ -37,7 +37,7 @@ returns c =
     let u = c .before .before in
     let k = u .before .before .before in
     let s = k .before .before .before .before .before in
-    stored-by (flat (s .args .heads .now) (s .args .cells .now)) (s .args .at) (s .args .last) (s .args .m) (k .before .head-of .result) (k .cells-after .result) (u .put .last .1 .0)
+    stored-by (flat (s .args .heads .now) (s .args .cells .now)) (s .args .at) (withTrade (s .args .last)) (s .args .m) (k .before .head-of .result) (k .cells-after .result) (u .put .last .1 .0)
     (k .before .head-of .ensures) (k .cells-after .ensures) (u .put .ensures)
 
 pub put-after-spec : {M : Type 1} → statement M

@@ -10,6 +10,9 @@ use Rattle.stock_board_flat.proofs.keeping.quote_from.Tie as tie
 shared-slice-read-marks-of : tie.Need-shared-slice-read-marks-of
 shared-slice-read-marks-of c = search needs
 
+mul-marks-of : tie.Need-mul-marks-of
+mul-marks-of c = search needs
+
 cast-marks-of : tie.Need-cast-marks-of
 cast-marks-of c = search needs
 
@@ -42,6 +45,7 @@ quote-from-spec =
     tie.close
     (tie.spec
     shared-slice-read-marks-of
+    mul-marks-of
     cast-marks-of
     marks-of-requires
     shared-slice-read-time-of

@@ -1,5 +1,4 @@
 -- `Reveal::from_byte` meets its contract.
-use mathlib.Core.Path.{refl}
 use borrow.Author.Needs.{needs}
 use Rattle.stock_quotes.proofs.Reveal.from_byte.Statement.{statement}
 use Rattle.stock_quotes.proofs.Reveal.from_byte.Tie as tie
@@ -13,8 +12,11 @@ cast-t7 c = search needs
 cast-t10 : tie.Need-cast-t10
 cast-t10 c = search needs
 
+from-byte-requires : tie.Need-from-byte-requires
+from-byte-requires c κs = search needs
+
 returns : tie.Need-returns
-returns c = refl
+returns c = rw (c .from-byte .ensures)
 
 pub from-byte-spec : {M : Type 1} → statement M
-from-byte-spec = tie.close (tie.spec cast-t4 cast-t7 cast-t10 returns)
+from-byte-spec = tie.close (tie.spec cast-t4 cast-t7 cast-t10 from-byte-requires returns)
