@@ -98,7 +98,7 @@ impl Row {
         self.code == NO_CODE
     }
 
-    /// Takes over what a message says. Without a trade pair the last trade stays.
+    /// Takes over what a message says. Without a trade pair the last trade stays, and sides that are not shown stay too.
     #[inline]
     fn change(&mut self, quote: &Quote) {
         self.code = quote.code;
@@ -107,8 +107,10 @@ impl Row {
         self.status = quote.status;
         self.total = quote.total;
         self.trade = quote.trade().or(self.trade);
-        self.bids.list(quote.bids());
-        self.asks.list(quote.asks());
+        if let (Some(bids), Some(asks)) = (quote.bids(), quote.asks()) {
+            self.bids.list(bids);
+            self.asks.list(asks);
+        }
     }
 }
 
@@ -199,7 +201,7 @@ impl fmt::Display for Row {
     fn fmt(&self, f: &mut fmt::Formatter) -> fmt::Result {
         write!(f, "{{\"code\":{},\"time\":{},", Text(&self.code), Long(self.time))?;
         write!(f, "\"limit\":{},\"status\":{},\"total\":{},", self.limit, self.status, self.total.0)?;
-        pairs_keys(f, self.trade, self.bids.levels(), self.asks.levels())?;
+        pairs_keys(f, self.trade, Some(self.bids.levels()), Some(self.asks.levels()))?;
         f.write_str("}")
     }
 }

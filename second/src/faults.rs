@@ -17,7 +17,7 @@ const FIVE: [(&str, Put<Notice>); 3] = [
     ("five: text over 60", |notice, random| put(&mut notice.text_length, random.pick(&[61, 62, 64, 255]))),
 ];
 
-const SIX: [(&str, Put<Quote>); 10] = [
+const SIX: [(&str, Put<Quote>); 11] = [
     ("six: number", |quote, random| put(&mut quote.number, above(random, 99_999_999))),
     ("six: code", |quote, random| spoil_code(&mut quote.code, random)),
     ("six: time", |quote, random| put(&mut quote.time, wrong_time(random))),
@@ -31,7 +31,13 @@ const SIX: [(&str, Put<Quote>); 10] = [
     }),
     ("six: six or seven levels", |quote, random| {
         let (bids, asks) = random.pick(&[(6, 0), (7, 5), (0, 6), (5, 7), (6, 7)]);
-        put(&mut quote.reveal, random.byte() & 0x81 | bids << 4 | asks << 1)
+        put(&mut quote.reveal, random.byte() & 0x80 | bids << 4 | asks << 1)
+    }),
+    ("six: levels where only the trade is sent", |quote, random| {
+        // those that it has, or some of price 0 and quantity 0
+        let levels = if quote.reveal & 0x7E == 0 { random.pick(&[0x10, 0x02, 0x12, 0x50, 0x5A]) } else { 0 };
+        quote.reveal |= levels | 1;
+        true
     }),
     ("six: total", |quote, random| put(&mut quote.total, Quantity(above(random, 99_999_999)))),
     ("six: price", |quote, random| {

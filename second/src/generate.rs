@@ -97,6 +97,11 @@ fn put_check_right(bytes: &mut [u8]) {
     }
 }
 
+/// How many pairs a reveal byte calls for.
+fn pairs_of(reveal: u8) -> usize {
+    usize::from((reveal >> 7) + (reveal >> 4 & 7) + (reveal >> 1 & 7))
+}
+
 pub struct Generator {
     random: Random,
     quotes: Series,
@@ -180,13 +185,17 @@ impl Generator {
         if self.random.one_in(30) {
             (code, time) = (ZERO, NINES);
         }
-        let levels = |random: &mut Random| random.within(0..=5) as u8;
-        let (bids, asks, bits) = (levels(&mut self.random), levels(&mut self.random), self.random.byte() & 0x81);
+        let trade = self.random.byte() & 0x80;
+        let reveal = if self.random.one_in(4) {
+            trade | 1
+        } else {
+            trade | (self.random.within(0..=5) << 4 | self.random.within(0..=5) << 1) as u8
+        };
         let mut body = code.to_vec();
         digits(&mut body, time, 12);
-        body.extend([bits | bids << 4 | asks << 1, self.random.byte(), self.random.byte()]);
+        body.extend([reveal, self.random.byte(), self.random.byte()]);
         digits(&mut body, self.random.amount(QUANTITY), 8);
-        for _ in 0..bits / 0x80 + bids + asks {
+        for _ in 0..pairs_of(reveal) {
             digits(&mut body, self.random.amount(PRICE), 10);
             digits(&mut body, self.random.amount(QUANTITY), 8);
         }
@@ -395,7 +404,7 @@ impl Generator {
 
     fn damage_quote(&mut self, draft: &mut Draft) {
         let reveal = draft.body.get(12).copied().unwrap_or_default();
-        match self.random.below(9) {
+        match self.random.below(11) {
             0 => {
                 // six or seven levels, with or without their pairs
                 let reveal = match self.random.below(3) {
@@ -403,30 +412,40 @@ impl Generator {
                     1 => reveal & 0xF1 | self.random.pick(&[0x0C, 0x0E]),
                     _ => reveal & 0x81 | self.random.pick(&[0x6C, 0x7E, 0x6E, 0x7C]),
                 };
-                draft.put(12, &[reveal]);
-                if self.random.one_in(2) {
-                    let pairs = usize::from((reveal >> 7) + (reveal >> 4 & 7) + (reveal >> 1 & 7));
-                    draft.body.resize(19 + 9 * pairs, 0);
-                }
+                self.put_reveal(draft, reveal);
             }
-            1 => draft.put(12, &[self.random.byte()]),
-            2 => draft.put(12, &[reveal ^ 0x80]),
-            3 => {
+            1 => {
+                // only the trade, and yet the levels that there are, or others
+                let others = self.random.pick(&[0x10, 0x02, 0x12, 0x50, 0x5A]);
+                self.put_reveal(draft, if reveal & 0x7E == 0 { reveal | others } else { reveal } | 1);
+            }
+            2 => draft.put(12, &[self.random.byte()]),
+            3 => draft.put(12, &[reveal ^ 0x80]),
+            4 => draft.put(12, &[reveal ^ 0x01]),
+            5 => {
                 let time = self.wrong_time();
                 draft.put_digits(6, time, 12);
             }
-            4 => {
+            6 => {
                 let code = self.wrong_code();
                 draft.put(0, &code);
             }
-            5 => draft.put(0, &ZERO),
-            6 => draft.put_digits(6, NINES, 12),
-            7 => self.damage_price(draft),
+            7 => draft.put(0, &ZERO),
+            8 => draft.put_digits(6, NINES, 12),
+            9 => self.damage_price(draft),
             _ => {
                 let code = self.wrong_code();
                 draft.put(0, &code);
                 draft.put_digits(6, NINES, 12);
             }
+        }
+    }
+
+    /// Another reveal byte, with or without the pairs that it calls for.
+    fn put_reveal(&mut self, draft: &mut Draft, reveal: u8) {
+        draft.put(12, &[reveal]);
+        if self.random.one_in(2) {
+            draft.body.resize(19 + 9 * pairs_of(reveal), 0);
         }
     }
 

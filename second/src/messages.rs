@@ -57,16 +57,26 @@ fn quote_keys(f: &mut fmt::Formatter, quote: &Quote) -> fmt::Result {
     pairs_keys(f, quote.trade(), quote.bids(), quote.asks())
 }
 
-pub(crate) fn pairs_keys(f: &mut fmt::Formatter, trade: Option<Pair>, bids: &[Pair], asks: &[Pair]) -> fmt::Result {
+/// A trade, and sides that are `None` where they are not shown.
+pub(crate) fn pairs_keys(
+    f: &mut fmt::Formatter,
+    trade: Option<Pair>,
+    bids: Option<&[Pair]>,
+    asks: Option<&[Pair]>,
+) -> fmt::Result {
     f.write_str("\"trade\":")?;
     match trade {
         Some(pair) => pair_object(f, &pair),
         None => f.write_str("null"),
     }?;
-    f.write_str(",\"bids\":")?;
-    array(f, bids, pair_object)?;
-    f.write_str(",\"asks\":")?;
-    array(f, asks, pair_object)
+    for (key, side) in [("bids", bids), ("asks", asks)] {
+        write!(f, ",\"{key}\":")?;
+        match side {
+            Some(levels) => array(f, levels, pair_object),
+            None => f.write_str("null"),
+        }?;
+    }
+    Ok(())
 }
 
 fn pair_object(f: &mut fmt::Formatter, pair: &Pair) -> fmt::Result {

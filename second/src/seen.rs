@@ -6,8 +6,9 @@ use std::fmt;
 
 use crate::board::{self, Row};
 use crate::ledger::{Arrival, Ledger, Refusal};
-use crate::reading::{read_at, Answer, Message};
-use crate::six::Quote;
+use crate::outline::HEAD;
+use crate::reading::{self, read_at, Answer, Message};
+use crate::six::{Pair, Quote, Reveal, MOST_LEVELS, REVEAL};
 use crate::units::Code;
 use crate::walk::{walk, Line};
 use crate::writing::{write, NotWritten};
@@ -17,15 +18,24 @@ use crate::writing::{write, NotWritten};
 pub struct Seen {
     /// By the answers' numbers, at every place of the walk.
     pub answers: [u64; 14],
+    /// Frames refused with 10 for six or seven levels; and for levels where only the trade is sent, with the length that the
+    /// reveal byte gives and with another.
+    pub levels: [u64; 3],
     /// Accepted frames of the formats five, six, twelve and nineteen. Each was written back and gave its own bytes.
     pub formats: [u64; 4],
+    /// Accepted quotes whose levels are shown; and those whose are not, with a trade and without.
+    pub shown: [u64; 3],
     /// Arrivals of format six that are new and repeated ones, and those refused with 21 and with 22.
     pub arrivals: [u64; 4],
     /// Quotes that a clear board took, that were the day's last frame, and those refused with 52.
     pub taken: [u64; 3],
+    /// Those taken whose levels are not shown: on a row with levels, on one without, and on one that was free.
+    pub kept: [u64; 3],
     /// Rows at a line's end whose trade is that of their last quote, of an earlier one, and none yet; their sides without a
     /// level that an earlier quote listed; those of a code that is escaped.
     pub rows: [u64; 5],
+    /// Rows at a line's end whose sides their last quote showed; whose levels an earlier one did; and that were left empty.
+    pub sides: [u64; 3],
 }
 
 impl Seen {
@@ -36,6 +46,9 @@ impl Seen {
         let mut quotes: BTreeMap<Code, Vec<Quote>> = BTreeMap::new();
         for step in walk(line, Line::Closed) {
             self.answers[usize::from(step.answer.number())] += 1;
+            if let Answer::Refused { length, why: reading::Refusal::Levels } = step.answer {
+                self.levels(Reveal::of(line[step.place + HEAD + REVEAL]), length);
+            }
             if let Answer::Accepted { length, message } = &step.answer {
                 write_back(&line[step.place..step.place + length], message)
                     .map_err(|what| format!("{what}\n{}", around(line, step.place)))?;
@@ -47,18 +60,8 @@ impl Seen {
                 };
                 self.formats[format] += 1;
                 if let Message::Six(quote) = message {
-                    self.arrivals[match ledger.arrival(quote.number) {
-                        Ok(Arrival::New) => 0,
-                        Ok(Arrival::Repeat) => 1,
-                        Err(Refusal::Number) => 2,
-                        Err(Refusal::Full) => 3,
-                        Err(why) => return Err(format!("a ledger of arrivals answers {}", why.number())),
-                    }] += 1;
-                    self.taken[match board::take(&mut rows, quote) {
-                        Ok(()) => usize::from(quote.ends_the_day()),
-                        Err(board::Refusal::Full) => 2,
-                        Err(why) => return Err(format!("a board of quotes that were read answers {}", why.number())),
-                    }] += 1;
+                    self.arrival(&mut ledger, quote)?;
+                    self.take(&mut rows, quote)?;
                     quotes.entry(quote.code).or_default().push(*quote);
                 }
             }
@@ -69,6 +72,52 @@ impl Seen {
         Ok(())
     }
 
+    /// Adds the arrival of a quote's number.
+    fn arrival(&mut self, ledger: &mut Ledger, quote: &Quote) -> Result<(), String> {
+        self.arrivals[match ledger.arrival(quote.number) {
+            Ok(Arrival::New) => 0,
+            Ok(Arrival::Repeat) => 1,
+            Err(Refusal::Number) => 2,
+            Err(Refusal::Full) => 3,
+            Err(why) => return Err(format!("a ledger of arrivals answers {}", why.number())),
+        }] += 1;
+        Ok(())
+    }
+
+    /// Adds a quote that was read, and what a board does with it.
+    fn take(&mut self, rows: &mut [Row], quote: &Quote) -> Result<(), String> {
+        self.shown[match (quote.bids(), quote.trade()) {
+            (Some(_), _) => 0,
+            (None, Some(_)) => 1,
+            (None, None) => 2,
+        }] += 1;
+        let before = board::ask(rows, &quote.code).ok().copied();
+        self.taken[match board::take(rows, quote) {
+            Ok(()) => usize::from(quote.ends_the_day()),
+            Err(board::Refusal::Full) => 2,
+            Err(why) => return Err(format!("a board of quotes that were read answers {}", why.number())),
+        }] += 1;
+        if quote.bids().is_none() && board::ask(rows, &quote.code).is_ok() {
+            self.kept[match before {
+                Some(row) if row.bids.count + row.asks.count > 0 => 0,
+                Some(_) => 1,
+                None => 2,
+            }] += 1;
+        }
+        Ok(())
+    }
+
+    /// Adds a frame refused with 10.
+    fn levels(&mut self, reveal: Reveal, length: usize) {
+        self.levels[if reveal.bids.max(reveal.asks) > MOST_LEVELS {
+            0
+        } else if length == reveal.length() {
+            1
+        } else {
+            2
+        }] += 1;
+    }
+
     /// Adds a row at a line's end, and the quotes that it is from.
     fn row(&mut self, row: &Row, quotes: &[Quote]) {
         let sends = quotes.last().is_some_and(|last| last.trade().is_some());
@@ -77,18 +126,26 @@ impl Seen {
             Some(_) => 1,
             None => 2,
         }] += 1;
+        let lists = |side: Option<&[Pair]>| side.is_some_and(|levels| !levels.is_empty());
         let emptied = [
-            row.bids.count == 0 && quotes.iter().any(|quote| !quote.bids().is_empty()),
-            row.asks.count == 0 && quotes.iter().any(|quote| !quote.asks().is_empty()),
+            row.bids.count == 0 && quotes.iter().any(|quote| lists(quote.bids())),
+            row.asks.count == 0 && quotes.iter().any(|quote| lists(quote.asks())),
         ];
         self.rows[3] += emptied.map(u64::from).iter().sum::<u64>();
         self.rows[4] += u64::from(row.code.iter().any(|byte| b"\"\\".contains(byte)));
+        let shows = quotes.last().is_some_and(|last| last.bids().is_some());
+        self.sides[match row.bids.count + row.asks.count {
+            _ if shows => 0,
+            0 => 2,
+            _ => 1,
+        }] += 1;
     }
 
     /// Whether everything that is counted occurred.
     pub fn is_all(&self) -> bool {
-        let of_frames = self.answers.iter().chain(&self.formats).chain(&self.arrivals);
-        of_frames.chain(&self.taken).chain(&self.rows).all(|&times| times > 0)
+        let of_frames = self.answers.iter().chain(&self.levels).chain(&self.formats).chain(&self.shown);
+        let of_boards = self.taken.iter().chain(&self.kept).chain(&self.rows).chain(&self.sides);
+        of_frames.chain(&self.arrivals).chain(of_boards).all(|&times| times > 0)
     }
 }
 
@@ -98,15 +155,24 @@ impl fmt::Display for Seen {
         for (answer, times) in self.answers.iter().enumerate() {
             write!(f, " {answer}:{times}")?;
         }
+        let [many, length, other] = self.levels;
+        write!(f, "; 10 for six or seven levels {many}, for levels beside the trade alone {length}, ")?;
+        write!(f, "with another length {other}")?;
         let [five, six, twelve, nineteen] = self.formats;
         write!(f, "\naccepted and written back: five {five}, six {six}, twelve {twelve}, nineteen {nineteen}")?;
+        let [shown, trade, none] = self.shown;
+        write!(f, "; of six levels shown {shown}, the trade alone {trade}, nothing {none}")?;
         let [new, repeat, number, full] = self.arrivals;
         write!(f, "\nnumbers of format six: new {new}, repeat {repeat}, 21 {number}, 22 {full}")?;
         let [taken, last, full] = self.taken;
-        write!(f, "\nboards: taken {taken}, the day's last {last}, 52 {full}")?;
+        write!(f, "\nboards: taken {taken}, the day's last {last}, 52 {full}; ")?;
+        let [kept, empty, new] = self.kept;
+        write!(f, "levels not shown: sides kept {kept}, empty ones kept {empty}, new rows {new}")?;
         let [sent, kept, none, emptied, escaped] = self.rows;
         write!(f, "\nrows: trade sent last {sent}, kept {kept}, none yet {none}; ")?;
-        write!(f, "sides emptied {emptied}, codes escaped {escaped}")
+        write!(f, "sides emptied {emptied}, codes escaped {escaped}; ")?;
+        let [last, kept, none] = self.sides;
+        write!(f, "sides shown last {last}, kept {kept}, still empty {none}")
     }
 }
 

@@ -19,6 +19,9 @@ pub const MOST_PAIRS: usize = 1 + 2 * MOST_LEVELS;
 const FIXED: usize = 19;
 const PAIR: usize = Price::SIZE + Quantity::SIZE;
 
+/// The place of the reveal byte in the body.
+pub const REVEAL: usize = 12;
+
 #[derive(Clone, Copy, Debug, Default, PartialEq, Eq)]
 pub struct Pair {
     pub price: Price,
@@ -31,20 +34,29 @@ pub struct Reveal {
     pub trade: bool,
     pub bids: usize,
     pub asks: usize,
+    /// Only the trade is sent; the levels are not shown.
+    pub trade_only: bool,
 }
 
 impl Reveal {
     pub fn of(byte: u8) -> Reveal {
-        Reveal { trade: byte & 0x80 != 0, bids: usize::from(byte >> 4 & 7), asks: usize::from(byte >> 1 & 7) }
+        let levels = |bits: u8| usize::from(bits & 7);
+        Reveal { trade: byte & 0x80 != 0, bids: levels(byte >> 4), asks: levels(byte >> 1), trade_only: byte & 1 != 0 }
     }
 
-    /// Whether neither side has six or seven levels.
+    /// Whether neither side has six or seven levels, nor any where only the trade is sent.
     pub fn is_possible(self) -> bool {
-        self.bids <= MOST_LEVELS && self.asks <= MOST_LEVELS
+        let most = if self.trade_only { 0 } else { MOST_LEVELS };
+        self.bids <= most && self.asks <= most
     }
 
     pub fn pairs(self) -> usize {
         usize::from(self.trade) + self.bids + self.asks
+    }
+
+    /// The length of a frame with these pairs.
+    pub fn length(self) -> usize {
+        *LENGTHS.start() + PAIR * self.pairs()
     }
 }
 
@@ -73,7 +85,7 @@ fn is_time(time: u64, code: &Code) -> bool {
 
 impl Quote {
     pub fn read(number: u32, body: &[u8]) -> Result<Quote, Refusal> {
-        let reveal = Reveal::of(body[12]);
+        let reveal = Reveal::of(body[REVEAL]);
         if !reveal.is_possible() {
             return Err(Refusal::Levels);
         }
@@ -95,25 +107,27 @@ impl Quote {
         if !is_code(&code) {
             return Err(Refusal::Field);
         }
-        Ok(Quote { number, code, time, reveal: body[12], limit: body[13], status: body[14], total, pairs })
+        Ok(Quote { number, code, time, reveal: body[REVEAL], limit: body[13], status: body[14], total, pairs })
     }
 
     pub fn trade(&self) -> Option<Pair> {
         Reveal::of(self.reveal).trade.then_some(self.pairs[0])
     }
 
-    /// The bid levels, best first; empty if none is listed.
-    pub fn bids(&self) -> &[Pair] {
+    /// The bid levels, best first; empty if there is none, and `None` if they are not shown.
+    #[inline]
+    pub fn bids(&self) -> Option<&[Pair]> {
         let reveal = Reveal::of(self.reveal);
         let first = usize::from(reveal.trade);
-        &self.pairs[first..first + reveal.bids]
+        (!reveal.trade_only).then(|| &self.pairs[first..first + reveal.bids])
     }
 
-    /// The ask levels, best first; empty if none is listed.
-    pub fn asks(&self) -> &[Pair] {
+    /// The ask levels, best first; empty if there is none, and `None` if they are not shown.
+    #[inline]
+    pub fn asks(&self) -> Option<&[Pair]> {
         let reveal = Reveal::of(self.reveal);
         let first = usize::from(reveal.trade) + reveal.bids;
-        &self.pairs[first..first + reveal.asks]
+        (!reveal.trade_only).then(|| &self.pairs[first..first + reveal.asks])
     }
 
     /// Whether this is the day's last frame.
@@ -138,14 +152,14 @@ impl Quote {
 
     /// The frame's length, for a message that keeps the rules.
     pub fn length(&self) -> usize {
-        *LENGTHS.start() + PAIR * Reveal::of(self.reveal).pairs()
+        Reveal::of(self.reveal).length()
     }
 
     /// Writes the body, for a message that keeps the rules.
     pub fn write(&self, body: &mut [u8]) {
         body[..6].copy_from_slice(&self.code);
         digits::pack(self.time, &mut body[6..12]);
-        body[12] = self.reveal;
+        body[REVEAL] = self.reveal;
         body[13] = self.limit;
         body[14] = self.status;
         self.total.pack(&mut body[15..19]);

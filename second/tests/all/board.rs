@@ -218,6 +218,138 @@ fn sides_are_the_last_ones() {
 }
 
 #[test]
+fn sides_that_are_not_shown_stay() {
+    let mut rows = CLEAR;
+    let (bids, asks) = ([pair(11, 1), pair(10, 2), pair(0, 0)], [pair(12, 3), pair(13, 4)]);
+    let shown = [&[pair(1, 1)], &bids[..], &asks[..]].concat();
+    assert_eq!(answer(&mut rows, &quote_of(b"2330  ", 0xB4, &shown)), 0);
+    assert_eq!(answer(&mut rows, &quote_of(b"2331  ", 0x02, &[pair(7, 7)])), 0);
+    // The trade alone: it is the row's, and so are time, limit, status and total; the sides are as they were.
+    let trade = Quote {
+        number: 5,
+        time: 90_415_061_279,
+        limit: 0x81,
+        status: 0x10,
+        total: Quantity(16_424),
+        ..quote_of(b"2330  ", 0x81, &[pair(2, 2)])
+    };
+    assert_eq!(answer(&mut rows, &trade), 0);
+    let mut row = Row {
+        code: *b"2330  ",
+        time: 90_415_061_279,
+        limit: 0x81,
+        status: 0x10,
+        total: Quantity(16_424),
+        trade: Some(pair(2, 2)),
+        bids: side(&bids),
+        asks: side(&asks),
+    };
+    assert_eq!(asked(&rows, b"2330  "), Ok(row));
+    assert_eq!(asked(&rows, b"2331  "), Ok(row_of(b"2331  ", None, &[], &[pair(7, 7)])));
+    assert_eq!(used(&rows), Ok(2));
+    // A second one, then one without a trade: that stays too.
+    assert_eq!(answer(&mut rows, &quote_of(b"2330  ", 0x81, &[pair(0, 0)])), 0);
+    assert_eq!(asked(&rows, b"2330  "), Ok(row_of(b"2330  ", Some(pair(0, 0)), &bids, &asks)));
+    let nothing = Quote { time: 100_000_000_000, ..quote_of(b"2330  ", 0x01, &[]) };
+    assert_eq!(answer(&mut rows, &nothing), 0);
+    row = Row { time: 100_000_000_000, ..row_of(b"2330  ", Some(pair(0, 0)), &bids, &asks) };
+    assert_eq!(asked(&rows, b"2330  "), Ok(row));
+    // Levels that are shown again replace them, and none at all are shown by 80 and by 00.
+    assert_eq!(answer(&mut rows, &quote_of(b"2330  ", 0x10, &[pair(9, 9)])), 0);
+    assert_eq!(asked(&rows, b"2330  "), Ok(row_of(b"2330  ", Some(pair(0, 0)), &[pair(9, 9)], &[])));
+    assert_eq!(answer(&mut rows, &quote_of(b"2330  ", 0x81, &[pair(3, 3)])), 0);
+    assert_eq!(asked(&rows, b"2330  "), Ok(row_of(b"2330  ", Some(pair(3, 3)), &[pair(9, 9)], &[])));
+    assert_eq!(answer(&mut rows, &quote_of(b"2330  ", 0x80, &[pair(4, 4)])), 0);
+    assert_eq!(asked(&rows, b"2330  "), Ok(row_of(b"2330  ", Some(pair(4, 4)), &[], &[])));
+    // Empty sides stay empty.
+    assert_eq!(answer(&mut rows, &quote_of(b"2330  ", 0x81, &[pair(5, 5)])), 0);
+    assert_eq!(asked(&rows, b"2330  "), Ok(row_of(b"2330  ", Some(pair(5, 5)), &[], &[])));
+    // The day's last frame shows nothing and changes nothing.
+    for last in [quote_of(b"000000", 0x01, &[]), quote_of(b"000000", 0x81, &[pair(6, 6)])] {
+        assert_eq!(unchanged(&rows, &Quote { time: LONG_NINES, ..last }), 0);
+    }
+}
+
+#[test]
+fn a_row_taken_by_the_trade_alone() {
+    // A row that was never shown levels has empty sides.
+    let mut rows = CLEAR;
+    assert_eq!(answer(&mut rows, &quote_of(b"2330  ", 0x81, &[pair(2, 2)])), 0);
+    assert_eq!(answer(&mut rows, &quote_of(b"0050  ", 0x01, &[])), 0);
+    let expected = [row_of(b"2330  ", Some(pair(2, 2)), &[], &[]), row_of(b"0050  ", None, &[], &[])];
+    assert_eq!(rows[..2], expected);
+    assert_eq!(rows[2..], CLEAR[2..]);
+    // Behind it come the levels, and they stay.
+    assert_eq!(answer(&mut rows, &quote_of(b"0050  ", 0x12, &[pair(3, 3), pair(4, 4)])), 0);
+    assert_eq!(answer(&mut rows, &quote_of(b"0050  ", 0x01, &[])), 0);
+    assert_eq!(rows[1], row_of(b"0050  ", None, &[pair(3, 3)], &[pair(4, 4)]));
+    // A free row is emptied first, whatever it holds.
+    let mut rows = full();
+    for place in [20, 30] {
+        assert_eq!(answer(&mut rows, &quote_of(&code_of(place + 1), 0x5A, &[pair(8, 8); 10])), 0);
+        rows[place].code = NO_CODE;
+    }
+    let mut expected = rows;
+    expected[20] = row_of(b"2330  ", Some(pair(2, 2)), &[], &[]);
+    expected[30] = row_of(b"0050  ", None, &[], &[]);
+    assert_eq!(answer(&mut rows, &quote_of(b"2330  ", 0x81, &[pair(2, 2)])), 0);
+    assert_eq!(answer(&mut rows, &quote_of(b"0050  ", 0x01, &[])), 0);
+    assert_eq!(rows, expected);
+    // No row is left for another; the stocks that have one are changed as ever, the last of them too.
+    assert_eq!(unchanged(&rows, &quote_of(b"000021", 0x81, &[pair(1, 1)])), 52);
+    assert_eq!(unchanged(&rows, &quote_of(b"000021", 0x01, &[])), 52);
+    assert_eq!(answer(&mut rows, &quote_of(b"000256", 0x10, &[pair(5, 5)])), 0);
+    assert_eq!(answer(&mut rows, &quote_of(b"000256", 0x81, &[pair(6, 6)])), 0);
+    expected[255] = row_of(b"000256", Some(pair(6, 6)), &[pair(5, 5)], &[]);
+    assert_eq!(rows, expected);
+}
+
+#[test]
+fn sides_stay_on_any_board() {
+    // The first of two rows keeps its own sides, also behind a free row that holds others.
+    let mut rows = CLEAR;
+    rows[1] = Row { code: NO_CODE, ..row_of(b"2330  ", Some(pair(1, 1)), &[pair(1, 2)], &[pair(1, 3)]) };
+    rows[3] = row_of(b"2330  ", Some(pair(3, 3)), &[], &[pair(3, 4)]);
+    rows[9] = row_of(b"2330  ", Some(pair(9, 9)), &[pair(9, 8)], &[]);
+    let mut expected = rows;
+    expected[3] = row_of(b"2330  ", Some(pair(2, 2)), &[], &[pair(3, 4)]);
+    assert_eq!(answer(&mut rows, &quote_of(b"2330  ", 0x81, &[pair(2, 2)])), 0);
+    assert_eq!(rows, expected);
+    // Sides that no call leaves are kept as they stand.
+    let odd = [
+        Side { count: usize::MAX, levels: [pair(u32::MAX, u32::MAX); 5] },
+        Side { count: 6, levels: [pair(7, 7); 5] },
+        Side { count: 1, levels: [pair(1, 1), pair(2, 2), pair(0, 0), pair(4, 4), pair(5, 5)] },
+    ];
+    for bids in odd {
+        for asks in odd {
+            rows[3] = Row { bids, asks, ..expected[3] };
+            let before = rows[3];
+            assert_eq!(answer(&mut rows, &quote_of(b"2330  ", 0x01, &[])), 0);
+            assert_eq!(rows[3], before);
+        }
+    }
+}
+
+#[test]
+fn levels_beside_the_trade_alone() {
+    // No such message can be written, so none is taken: on its own row, on a free one, and on a full board.
+    let mut rows = CLEAR;
+    assert_eq!(answer(&mut rows, &quote_of(b"2330  ", 0x12, &[pair(1, 1), pair(2, 2)])), 0);
+    for (reveal, many) in [(0xA3, 4), (0x11, 1), (0x03, 1), (0x83, 2), (0x91, 2), (0xDB, 11)] {
+        for code in [b"2330  ", b"0050  ", b"000001"] {
+            for rows in [&rows, &full()] {
+                assert_eq!(unchanged(rows, &quote_of(code, reveal, &[pair(3, 3); 11][..many])), 14, "{reveal:02X}");
+                assert_eq!(unchanged(rows, &quote_of(code, reveal, &[])), 14, "{reveal:02X}");
+            }
+        }
+        let last = Quote { time: LONG_NINES, ..quote_of(b"000000", reveal, &[pair(3, 3); 11][..many]) };
+        assert_eq!(unchanged(&rows, &last), 14, "{reveal:02X}");
+        assert_eq!(unchanged(&rows[..255], &last), 50, "{reveal:02X}");
+    }
+}
+
+#[test]
 fn codes_at_the_edge() {
     // Six spaces are a stock like any other, and every byte of a code counts.
     let mut rows = CLEAR;
@@ -315,6 +447,14 @@ fn a_late_frame_overwrites() {
     assert_eq!((row.time, row.limit, row.status, row.total), (0, 0x1B, 0xFF, Quantity(0)));
     assert_eq!((answer(&mut rows, &late), used(&rows)), (0, Ok(1)));
     assert_eq!(rows[0], row_of(b"2330  ", Some(pair(1, 1)), &[], &[]));
+    // The trade alone, late: its fields overwrite, and the sides of the frame before it stay.
+    let shown = Quote { time: 235_959_999_999, ..quote_of(b"2330  ", 0x92, &[pair(5, 5), pair(6, 6), pair(7, 7)]) };
+    assert_eq!(answer(&mut rows, &shown), 0);
+    assert_eq!(answer(&mut rows, &Quote { reveal: 0x81, ..late }), 0);
+    assert_eq!(rows[0], row_of(b"2330  ", Some(pair(1, 1)), &[pair(6, 6)], &[pair(7, 7)]));
+    assert_eq!(answer(&mut rows, &Quote { number: 0, time: 0, ..quote_of(b"2330  ", 0x01, &[]) }), 0);
+    let row = Row { time: 0, ..row_of(b"2330  ", Some(pair(1, 1)), &[pair(6, 6)], &[pair(7, 7)]) };
+    assert_eq!((asked(&rows, b"2330  "), used(&rows)), (Ok(row), Ok(1)));
 }
 
 #[test]
@@ -340,8 +480,9 @@ fn messages_that_could_not_be_written() {
     for time in [240_000_000_000, 6_000_000_000, 60_000_000, LONG_NINES, 1_000_000_000_000, u64::MAX] {
         breaks(&|quote| quote.time = time);
     }
-    for reveal in [0x60, 0x70, 0x0C, 0x0E, 0xFF, 0xA0, 0x22, 0x92, 0x00] {
-        breaks(&|quote| quote.reveal = reveal); // too many levels, or pairs left over
+    for reveal in [0x60, 0x70, 0x0C, 0x0E, 0xFF, 0xA0, 0x22, 0x92, 0x00, 0x81, 0x01, 0xA3] {
+        // too many levels, pairs left over, or levels beside the trade alone
+        breaks(&|quote| quote.reveal = reveal);
     }
     breaks(&|quote| quote.total = Quantity(100_000_000));
     breaks(&|quote| quote.pairs[0].price = Price(1_000_000_000));
@@ -374,8 +515,8 @@ fn row_from(quotes: &[Quote]) -> Row {
         status: last.status,
         total: last.total,
         trade: quotes.iter().rev().find_map(Quote::trade),
-        bids: side(last.bids()),
-        asks: side(last.asks()),
+        bids: quotes.iter().rev().find_map(Quote::bids).map_or(Side::EMPTY, side),
+        asks: quotes.iter().rev().find_map(Quote::asks).map_or(Side::EMPTY, side),
     }
 }
 
@@ -468,6 +609,36 @@ fn what_a_line_leaves() {
         "\n",
     );
     assert_eq!(told(&line.concat()), text);
+}
+
+#[test]
+fn a_line_of_trades_alone() {
+    let (one, other) = ("0000994900 00000001", "0000995500 00000002");
+    let line = [
+        // Levels, two trades alone behind them, and levels refused beside one.
+        six("2330  ", "090000000001", "12", &format!("00000001 {one} {other}")),
+        six("2330  ", "090000000002", "81", "00000011 0000995000 00000010"),
+        six("0050  ", "090000000003", "81", "00000005 0000500000 00000005"),
+        six("2330  ", "090000000004", "81", "00000012 0000995500 00000001"),
+        six("2330  ", "090000000005", "A3", &format!("00000013 {one} {one} {one} {one}")),
+        // A stock whose levels come behind its trade, and one that has nothing but its time.
+        six("1101  ", "090000000006", "81", "00000007 0000420000 00000007"),
+        six("1101  ", "090000000007", "10", &format!("00000007 {one}")),
+        six("      ", "000000000000", "01", "00000000"),
+        six("1101  ", "090000000008", "01", "00000008"),
+        // Late, and with empty sides that are shown; then the trade alone once more.
+        six("9958  ", "090000000009", "02", &format!("00000001 {other}")),
+        six("9958  ", "080000000000", "00", "00000002"),
+        six("9958  ", "070000000000", "81", "00000003 0000010000 00000001"),
+    ];
+    let rows = [
+        r#"{"code":"2330  ","time":"09:00:00.000004","limit":0,"status":16,"total":12,"trade":{"price":"99.5500","quantity":1},"bids":[{"price":"99.4900","quantity":1}],"asks":[{"price":"99.5500","quantity":2}]}"#,
+        r#"{"code":"0050  ","time":"09:00:00.000003","limit":0,"status":16,"total":5,"trade":{"price":"50.0000","quantity":5},"bids":[],"asks":[]}"#,
+        r#"{"code":"1101  ","time":"09:00:00.000008","limit":0,"status":16,"total":8,"trade":{"price":"42.0000","quantity":7},"bids":[{"price":"99.4900","quantity":1}],"asks":[]}"#,
+        r#"{"code":"      ","time":"00:00:00.000000","limit":0,"status":16,"total":0,"trade":null,"bids":[],"asks":[]}"#,
+        r#"{"code":"9958  ","time":"07:00:00.000000","limit":0,"status":16,"total":3,"trade":{"price":"1.0000","quantity":1},"bids":[],"asks":[]}"#,
+    ];
+    assert_eq!(told(&line.concat()), rows.join("\n") + "\n");
 }
 
 #[test]

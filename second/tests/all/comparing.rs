@@ -70,6 +70,7 @@ fn a_difference() {
         ("listing", "sed 's/^total,.*/total,1,2,3/'", "total,1,2,3", "total,"),
         ("listing", "sed '$d'", "no such row", "total,"),
         ("messages", "sed '1s/\"seq\":/\"seq\":1/'", "{\"at\":", "{\"at\":"),
+        ("messages", "sed 's/\"bids\":null/\"bids\":[]/'", "\"bids\":[],\"asks\":null", "\"bids\":null,\"asks\":null"),
         ("gaps", "sed 's/\"heard\":/\"heard\":1/'", "\"heard\":1", "{\"highest\":"),
         ("board", "sed 's/\"trade\":{.*},\"bids\"/\"trade\":null,\"bids\"/'", "\"trade\":null,", "\"trade\":{"),
         ("board", "sed '$p'", "{\"code\":", "no such row"),

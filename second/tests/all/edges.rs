@@ -51,9 +51,26 @@ fn reveal_bytes() {
         assert_eq!((answer.number(), answer.length()), (0, Some(length)));
         let Some(Message::Six(quote)) = answer.message() else { panic!("no quote") };
         assert_eq!(quote.trade().is_some(), trade);
-        assert_eq!((quote.bids().len(), quote.asks().len()), (bids, asks));
+        assert_eq!((quote.bids().unwrap().len(), quote.asks().unwrap().len()), (bids, asks));
     }
     assert_eq!(read(&frame(SIX, &quote(0x60, 6))).number(), 10);
+}
+
+#[test]
+fn reveal_bytes_of_the_trade_alone() {
+    for (reveal, trade, length) in [(0x81, true, 41), (0x01, false, 32)] {
+        let answer = read(&frame(SIX, &quote(reveal, usize::from(trade))));
+        assert_eq!((answer.number(), answer.length()), (0, Some(length)));
+        let Some(Message::Six(quote)) = answer.message() else { panic!("no quote") };
+        assert_eq!((quote.trade().is_some(), quote.bids(), quote.asks()), (trade, None, None));
+    }
+    // Not shown is not none.
+    for (reveal, pairs) in [(0x80, 1), (0x00, 0)] {
+        let answer = read(&frame(SIX, &quote(reveal, pairs)));
+        let Some(Message::Six(quote)) = answer.message() else { panic!("no quote") };
+        assert_eq!((quote.bids(), quote.asks()), (Some(&[][..]), Some(&[][..])));
+    }
+    assert_eq!(read(&frame(SIX, &quote(0xA3, 4))).number(), 10);
 }
 
 #[test]

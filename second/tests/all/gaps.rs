@@ -21,8 +21,12 @@ fn no_arrivals() {
     // Frames of other formats, refused frames and noise are none.
     let mut refused = quote(0x00, 0);
     refused[15] = 0x0A;
-    let others = [hex(NOTICE), hex(HALT), frame(SIX, &refused), frame(SIX, &quote(0x60, 6)), hex("1B 00")].concat();
+    let levels = [frame(SIX, &quote(0x60, 6)), frame(SIX, &quote(0xA3, 4)), frame(SIX, &quote(0x11, 1))].concat();
+    let others = [hex(NOTICE), hex(HALT), frame(SIX, &refused), levels, hex("1B 00")].concat();
     assert_eq!(told(&others), nothing);
+    // The trade alone is one.
+    let trades = [frame(SIX, &quote(0x81, 1)), frame("01 06 04 00000002", &quote(0x01, 0))].concat();
+    assert_eq!(told(&trades), "{\"highest\":2,\"heard\":2,\"missing\":0}\n");
 }
 
 #[test]

@@ -49,6 +49,10 @@ fn every_answer_occurs() {
     assert_eq!(seen.answers[0], seen.formats.iter().sum());
     assert_eq!(seen.formats[1], seen.arrivals.iter().sum());
     assert_eq!(seen.formats[1], seen.taken.iter().sum());
+    assert_eq!(seen.formats[1], seen.shown.iter().sum());
+    assert_eq!(seen.answers[10], seen.levels.iter().sum());
+    assert!(seen.kept.iter().sum::<u64>() <= seen.shown[1] + seen.shown[2]);
+    assert_eq!(seen.rows[..3].iter().sum::<u64>(), seen.sides.iter().sum());
 }
 
 #[test]

@@ -64,6 +64,9 @@ fn small_lines() {
     assert_eq!(listed(&hex("1B 00 14 1B"), 1), "at,answer,bytes,format,seq\n0,2,4,-,-\ntotal,0,0,4\n");
     let refused = frame("01 05 01 00000002", &[0x01]);
     assert_eq!(listed(&refused, 5), "at,answer,bytes,format,seq\n0,13,14,-,-\ntotal,0,14,0\n");
+    let trades = [frame(SIX, &quote(0x81, 1)), frame(SIX, &quote(0x01, 0)), frame(SIX, &quote(0xA3, 4))].concat();
+    let text = "at,answer,bytes,format,seq\n0,0,41,6,1\n41,0,32,6,1\n73,10,68,-,-\ntotal,73,68,0\n";
+    assert_eq!(listed(&trades, 7), text);
 }
 
 #[test]

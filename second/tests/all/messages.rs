@@ -55,10 +55,33 @@ fn quotes() {
     assert_eq!(told(&six("\"\\~/a ", "000000000000", "10", "00000000 0000000000 00000005")), text);
     let text = concat!(
         r#"{"at":0,"format":6,"seq":7,"code":"000000","time":null,"last":true,"reveal":1,"limit":1,"status":16,"#,
-        r#""total":99999999,"trade":null,"bids":[],"asks":[]}"#,
+        r#""total":99999999,"trade":null,"bids":null,"asks":null}"#,
         "\n"
     );
     assert_eq!(told(&six("000000", NINES, "01", "99999999")), text);
+}
+
+#[test]
+fn levels_that_are_not_shown() {
+    // Nothing sent, and sides that are empty: reveal 00 and 80. The trade alone: 01 and 81.
+    let pair = "0000995000 00001234";
+    let text = |reveal: u8, trade: &str, side: &str| {
+        format!(
+            "{{\"at\":0,\"format\":6,\"seq\":7,\"code\":\"2330  \",\"time\":\"09:04:15.061278\",\"reveal\":{reveal},\
+             \"limit\":1,\"status\":16,\"total\":16423,\"trade\":{trade},\"bids\":{side},\"asks\":{side}}}\n"
+        )
+    };
+    let trade = r#"{"price":"99.5000","quantity":1234}"#;
+    let one = |reveal: &str, pairs: &str| told(&six("2330  ", "090415061278", reveal, &format!("00016423 {pairs}")));
+    assert_eq!(one("00", ""), text(0, "null", "[]"));
+    assert_eq!(one("80", pair), text(128, trade, "[]"));
+    assert_eq!(one("01", ""), text(1, "null", "null"));
+    assert_eq!(one("81", pair), text(129, trade, "null"));
+    // With levels it is refused, and nothing is told.
+    for reveal in ["A3", "91", "83"] {
+        assert_eq!(one(reveal, &pair.repeat(4)), "");
+        assert_eq!(one(reveal, &pair.repeat(2)), "");
+    }
 }
 
 #[test]

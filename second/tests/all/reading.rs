@@ -100,7 +100,9 @@ fn six_levels_and_length() {
         let counts = [reveal >> 4 & 7, reveal >> 1 & 7];
         let pairs = usize::from(reveal >> 7) + usize::from(counts[0]) + usize::from(counts[1]);
         for listed in 0..=11 {
-            let expected = match (counts.iter().any(|&count| count > 5), listed == pairs) {
+            // No side has more than five levels, and none has any where only the trade is sent.
+            let most = if reveal % 2 == 1 { 0 } else { 5 };
+            let expected = match (counts.iter().any(|&count| count > most), listed == pairs) {
                 (true, _) => 10,
                 (false, false) => 9,
                 (false, true) => 0,
@@ -111,6 +113,64 @@ fn six_levels_and_length() {
     assert_eq!(answer(SIX, &quote(0x00, 0)[..18]), 9);
     assert_eq!(answer(SIX, &[quote(0xDA, 11), vec![0]].concat()), 9);
     assert_eq!(answer(SIX, &[quote(0x60, 11), vec![0]].concat()), 9);
+}
+
+#[test]
+fn six_the_trade_alone_and_levels() {
+    // A side alone, both, and six levels as well; with the trade's pair and without.
+    for reveal in [0x11, 0x03, 0x13, 0x51, 0x0B, 0x5B, 0x91, 0x83, 0xA3, 0xD1, 0x8B, 0xDB, 0x61, 0x0D, 0xE3, 0x8F, 0xFF]
+    {
+        // Any length from 32 to 131, that of its pairs, of the trade alone, and ones that no pairs have.
+        for listed in 0..=11 {
+            assert_eq!(answer(SIX, &quote(reveal, listed)), 10, "{reveal:02X} with {listed} pairs");
+        }
+        assert_eq!(answer(SIX, &[quote(reveal, 0), vec![0]].concat()), 10, "{reveal:02X}");
+        assert_eq!(answer(SIX, &quote(reveal, 11)[..117]), 10, "{reveal:02X}");
+        // 31 and 132 are no lengths of the format at all.
+        assert_eq!(answer(SIX, &quote(reveal, 0)[..18]), 9, "{reveal:02X}");
+        assert_eq!(answer(SIX, &[quote(reveal, 11), vec![0]].concat()), 9, "{reveal:02X}");
+    }
+    // Before bad digits, a bad time and a bad code, one by one and all at once.
+    let pairs = "0000995000 00000250".repeat(4);
+    let rest = format!("A3 00 10 00016423 {pairs}");
+    assert_eq!(answer(SIX, &body("2330  ", &format!("A90415061278 {rest}"))), 10);
+    assert_eq!(answer(SIX, &body("2330  ", &format!("250415061278 {rest}"))), 10);
+    assert_eq!(answer(SIX, &body("2330  ", &format!("{NINES} {rest}"))), 10);
+    assert_eq!(answer(SIX, &body("000000", &format!("090415061278 {rest}"))), 10);
+    assert_eq!(answer(SIX, &body("2330 \x1f", &format!("090415061278 {rest}"))), 10);
+    assert_eq!(answer(SIX, &body("2330  ", &format!("090415061278 A3 00 10 0001642A {pairs}"))), 10);
+    assert_eq!(answer(SIX, &body("\0\0\0\0\0\0", &format!("FFFFFFFFFFFF A3 00 10 FFFFFFFF {}", "FF".repeat(7)))), 10);
+    // The day's last frame has no other rule.
+    assert_eq!(answer(SIX, &body("000000", &format!("{NINES} {rest}"))), 10);
+    // Behind the version, the format and the digits of the header.
+    let levels = quote(0xA3, 4);
+    assert_eq!(answer("01 06 03 00000001", &levels), 8);
+    assert_eq!(answer("01 07 04 00000001", &levels), 7);
+    assert_eq!(answer("01 06 04 0000000A", &levels), 6);
+}
+
+#[test]
+fn six_the_trade_alone() {
+    // The length that its pairs give, and no other.
+    for (reveal, pairs) in [(0x01, 0), (0x81, 1)] {
+        for listed in 0..=11 {
+            let expected = if listed == pairs { 0 } else { 9 };
+            assert_eq!(answer(SIX, &quote(reveal, listed)), expected, "{reveal:02X} with {listed} pairs");
+        }
+        assert_eq!(answer(SIX, &[quote(reveal, pairs), vec![0]].concat()), 9);
+    }
+    // Its fields are looked at as ever.
+    let day = |code: &str, time: &str, rest: &str| answer(SIX, &body(code, &format!("{time} {rest}")));
+    let rest = "81 00 10 00016423 0000995000 00000250";
+    assert_eq!(day("2330  ", "090415061278", rest), 0);
+    assert_eq!(day("2330  ", "09041506127A", rest), 11);
+    assert_eq!(day("2330  ", "090415061278", "81 00 10 00016423 1000995000 00000250"), 11);
+    assert_eq!(day("2330  ", "090415061278", "01 00 10 0001642B"), 11);
+    assert_eq!(day("2330  ", "240000000000", rest), 12);
+    assert_eq!(day("2330  ", NINES, "01 00 10 00016423"), 12);
+    assert_eq!(day("2330 \x7f", "090415061278", rest), 13);
+    assert_eq!(day("000000", NINES, rest), 0);
+    assert_eq!(day("000000", NINES, "01 00 10 00000000"), 0);
 }
 
 #[test]
@@ -142,7 +202,7 @@ fn six_fields() {
         assert_eq!(day(code, "094519033017", rest), 13, "{code:?}");
     }
     assert_eq!(day(" ~  ~ ", "094519033017", rest), 0);
-    // Limit, status and bit 0 are handed on.
+    // Limit, status and the reveal byte are handed on.
     let bytes = frame(SIX, &body("1301  ", "094519033017 81 FE FD 99999999 0999999999 99999999"));
     let answer = read(&bytes);
     let Some(Message::Six(quote)) = answer.message() else { panic!("no quote") };
@@ -151,7 +211,7 @@ fn six_fields() {
         (quote.total.0, quote.pairs[0].price.0, quote.pairs[0].quantity.0),
         (99_999_999, 999_999_999, 99_999_999)
     );
-    assert!(quote.bids().is_empty() && quote.asks().is_empty());
+    assert_eq!((quote.bids(), quote.asks()), (None, None));
     assert!(quote.pairs[1..].iter().all(|pair| *pair == Default::default()));
 }
 

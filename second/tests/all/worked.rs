@@ -66,8 +66,8 @@ fn six_1() {
     let quote = quoted(EXAMPLE_1, 0xFC, 0x7B);
     assert_eq!(head(&quote), (4567, b"2330  ", 90_415_061_278, 0xD6, 0x00, 0x00, 16423));
     assert_eq!(quote.trade(), Some(pairs(&[(9950, 1234)])[0]));
-    assert_eq!(quote.bids(), pairs(&[(9950, 250), (9900, 175), (9850, 477), (9750, 669), (9700, 125)]));
-    assert_eq!(quote.asks(), pairs(&[(10000, 80), (10050, 675), (10150, 460)]));
+    assert_eq!(quote.bids().unwrap(), pairs(&[(9950, 250), (9900, 175), (9850, 477), (9750, 669), (9700, 125)]));
+    assert_eq!(quote.asks().unwrap(), pairs(&[(10000, 80), (10050, 675), (10150, 460)]));
     assert!(!quote.ends_the_day());
 }
 
@@ -76,8 +76,8 @@ fn six_2() {
     let quote = quoted(EXAMPLE_2, 0x69, 0x9C);
     assert_eq!(head(&quote), (64323, b"2002  ", 102_733_165_041, 0xD0, 0xA0, 0x00, 11921));
     assert_eq!(quote.trade(), Some(pairs(&[(1385, 1921)])[0]));
-    assert_eq!(quote.bids(), pairs(&[(1385, 540), (1380, 230), (1375, 72), (1370, 69), (1365, 81)]));
-    assert_eq!(quote.asks(), []);
+    assert_eq!(quote.bids().unwrap(), pairs(&[(1385, 540), (1380, 230), (1375, 72), (1370, 69), (1365, 81)]));
+    assert_eq!(quote.asks().unwrap(), []);
 }
 
 #[test]
@@ -85,8 +85,8 @@ fn six_3() {
     let quote = quoted(EXAMPLE_3, 0xA5, 0x46);
     assert_eq!(head(&quote), (41234, b"1504  ", 95_023_271_534, 0x8A, 0x44, 0x00, 650));
     assert_eq!(quote.trade(), Some(pairs(&[(1150, 17)])[0]));
-    assert_eq!(quote.bids(), []);
-    assert_eq!(quote.asks(), pairs(&[(1150, 70), (1155, 35), (1160, 46), (1165, 28), (1170, 19)]));
+    assert_eq!(quote.bids().unwrap(), []);
+    assert_eq!(quote.asks().unwrap(), pairs(&[(1150, 70), (1155, 35), (1160, 46), (1165, 28), (1170, 19)]));
 }
 
 #[test]
@@ -94,7 +94,7 @@ fn six_4() {
     let quote = quoted(EXAMPLE_4, 0xC1, 0xB9);
     assert_eq!(head(&quote), (8325, b"1301  ", 94_519_033_017, 0x80, 0x81, 0x00, 1558));
     assert_eq!(quote.trade(), Some(pairs(&[(3350, 0)])[0]));
-    assert_eq!((quote.bids(), quote.asks()), (&[][..], &[][..]));
+    assert_eq!((quote.bids(), quote.asks()), (Some(&[][..]), Some(&[][..])));
 }
 
 #[test]
@@ -103,12 +103,36 @@ fn six_5() {
     let quote = quoted(EXAMPLE_5, 0xA2, 0xB7);
     assert_eq!(head(&quote), (4567, b"2330  ", 90_415_061_278, 0xD0, 0x00, 0x00, 16423));
     assert_eq!(quote.trade(), Some(pairs(&[(9950, 1234)])[0]));
-    assert_eq!(quote.bids(), pairs(&[(0, 250), (9900, 175), (9850, 477), (9750, 669), (9700, 125)]));
-    assert_eq!(quote.asks(), []);
+    assert_eq!(quote.bids().unwrap(), pairs(&[(0, 250), (9900, 175), (9850, 477), (9750, 669), (9700, 125)]));
+    assert_eq!(quote.asks().unwrap(), []);
     let printed = EXAMPLE_5.replace("78 D0", "78 D6");
     assert_eq!(read(&closed(&printed, 0xA2)).number(), 5);
     let answer = read(&closed(&printed, 0xB7 ^ 0xD0 ^ 0xD6));
     assert_eq!((answer.number(), answer.length()), (9, Some(86)));
+}
+
+/// No example of the specification sends the trade alone. This is its example 4, with bit 0 of the reveal byte set as its page
+/// says it is for a trade that is not an order's last; the check byte goes with it.
+const EXAMPLE_4_ALONE: &str = "
+    00 41 01 06 04 00 00 83 25 31 33 30 31 20 20 09 45 19 03 30 17 81 81 00 00 00 15 58
+    00 00 33 50 00 00 00 00 00";
+
+#[test]
+fn six_4_alone() {
+    let quote = quoted(EXAMPLE_4_ALONE, 0xC1, 0xB9 ^ 0x80 ^ 0x81);
+    assert_eq!(head(&quote), (8325, b"1301  ", 94_519_033_017, 0x81, 0x81, 0x00, 1558));
+    assert_eq!(quote.trade(), Some(pairs(&[(3350, 0)])[0]));
+    assert_eq!((quote.bids(), quote.asks()), (None, None));
+    // The other examples show levels, so with bit 0 set they are refused, of whatever length.
+    for (example, right, reveal) in
+        [(EXAMPLE_1, 0x7B, "D6"), (EXAMPLE_2, 0x9C, "D0"), (EXAMPLE_3, 0x46, "8A"), (EXAMPLE_5, 0xB7, "D0")]
+    {
+        let (before, behind) = example.split_once(&format!(" {reveal} ")).unwrap();
+        let alone = u8::from_str_radix(reveal, 16).unwrap() | 1;
+        let bytes = closed(&format!("{before} {alone:02X} {behind}"), right ^ 1);
+        let answer = read(&bytes);
+        assert_eq!((answer.number(), answer.length()), (10, Some(bytes.len())));
+    }
 }
 
 /// Both tables of format nineteen: number, code, halted, resumed, state. Rows that come again are left out.

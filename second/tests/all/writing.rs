@@ -21,7 +21,7 @@ fn quote() -> Quote {
         number: 8,
         code: *b"2330  ",
         time: 90_415_061_278,
-        reveal: 0xA3,
+        reveal: 0xA2,
         limit: 0x1B,
         status: 0xFF,
         total: Quantity(16_423),
@@ -141,7 +141,7 @@ fn quotes() {
     for time in [240_000_000_000, 6_000_000_000, 60_000_000, 999_999_999_999, 1_000_000_000_000, u64::MAX] {
         breaks(six(|quote| quote.time = time));
     }
-    for reveal in [0x60, 0x70, 0x0C, 0x0E, 0xFF, 0xA0, 0x22, 0x92] {
+    for reveal in [0x60, 0x70, 0x0C, 0x0E, 0xFF, 0xA0, 0x22, 0x92, 0x81, 0x01] {
         breaks(six(|quote| quote.reveal = reveal)); // too many levels, or pairs left over
     }
     keeps(six(|quote| quote.reveal = 0xB2)); // one more, of price 0 and quantity 0
@@ -150,6 +150,46 @@ fn quotes() {
     breaks(six(|quote| quote.pairs[3].quantity = Quantity(100_000_000)));
     breaks(six(|quote| quote.pairs[4].price = Price(1)));
     breaks(six(|quote| quote.pairs[10].quantity = Quantity(1)));
+}
+
+#[test]
+fn quotes_of_the_trade_alone() {
+    let only = |reveal: u8, sent: &[Pair]| {
+        six(|quote| {
+            quote.reveal = reveal;
+            quote.pairs = [Pair::default(); 11];
+            quote.pairs[..sent.len()].copy_from_slice(sent);
+        })
+    };
+    let pair = Pair { price: Price(995_000), quantity: Quantity(250) };
+    keeps(only(0x01, &[]));
+    keeps(only(0x81, &[pair]));
+    keeps(only(0x81, &[])); // of price 0 and quantity 0
+    let last = |reveal| {
+        six(|quote| {
+            (quote.code, quote.time, quote.reveal) = (*b"000000", 999_999_999_999, reveal);
+            quote.pairs = [Pair::default(); 11];
+        })
+    };
+    keeps(last(0x01));
+    keeps(last(0x81));
+    breaks(last(0x03));
+    // Pairs left over: a trade without bit 7, a level behind the trade, one at the end.
+    breaks(only(0x01, &[pair]));
+    breaks(only(0x81, &[pair, pair]));
+    breaks(only(0x81, &[pair, Pair::default(), pair]));
+    // A level count above 0, with its pairs and with pairs of zeros; the same with bit 0 clear is right.
+    for reveal in [0x11, 0x03, 0x13, 0x51, 0x0B, 0x5B, 0x91, 0x83, 0xA3, 0xD1, 0x8B, 0xDB] {
+        let pairs = [pair; 11];
+        let many = usize::from((reveal >> 7) + (reveal >> 4 & 7) + (reveal >> 1 & 7));
+        breaks(only(reveal, &pairs[..many]));
+        breaks(only(reveal, &[]));
+        keeps(only(reveal & 0xFE, &pairs[..many]));
+    }
+    breaks(six(|quote| quote.reveal = 0xA3));
+    for reveal in [0x61, 0x71, 0x0D, 0x0F, 0xFF] {
+        breaks(only(reveal, &[]));
+    }
 }
 
 #[test]
