@@ -4,9 +4,10 @@
 The line is put together from cases, one function each, in the order in which they stand in the file. A case gives parts: some
 bytes, what they do, and a row's object. What they do is the place of the row that they change, to that object; LAST for the
 day's last frame; REFUSED where no row is left for the stock; or None where no frame of format six is accepted. Objects are
-stated from the fields that went into the frame, and the last trade by the case. The board is made a second way: the reference
-reader (tests/reference) finds the messages, and a plain list keeps the rows. Both ways have to agree message for message. The
-text is the standard library's JSON, read back before anything is written. Nothing is taken from the program's output.
+stated from the fields that went into the frame, and by the case the last trade, and the sides where a quote shows none. The
+board is made a second way: the reference reader (tests/reference) finds the messages, and a plain list keeps the rows. Both ways
+have to agree message for message. The text is the standard library's JSON, read back before anything is written. Nothing is
+taken from the program's output.
 
 make.py           writes the two files
 make.py --check   compares instead, and exits 1 on a difference
@@ -23,7 +24,7 @@ from messages.make import SPARE, ladder, pair
 from reference import frames, reader, refusals, stored
 
 ROWS = 256
-REST = range(102, ROWS)  # the places that only the cases full and much use
+REST = range(108, ROWS)  # the places that only the cases full and much use
 LAST, REFUSED = "the day's last", "refused with 52"
 KEYS = "code", "time", "limit", "status", "total", "trade", "bids", "asks"
 
@@ -40,6 +41,17 @@ def row(place, last, **fields):
 def traded(place, trade, **fields):
     """The same of a quote with a trade, which is the last then."""
     return row(place, trade, trade=trade, **fields)
+
+
+def alone(place, last, bids=(), asks=(), **fields):
+    """A quote that shows no levels and changes the row at a place, which then shows this last trade, and keeps these sides."""
+    data, does, shown = row(place, last, bids=None, asks=None, **fields)
+    return data, does, dict(shown, bids=list(bids), asks=list(asks))
+
+
+def traded_alone(place, trade, bids=(), asks=(), **fields):
+    """The same of a quote with a trade."""
+    return alone(place, trade, bids, asks, trade=trade, **fields)
 
 
 def rowless(**fields):
@@ -84,7 +96,7 @@ def last_trades():
     yield row(4, None, code="2317  ")
     yield traded(4, pair("104.5000", 3), code="2317  ")
     yield row(4, pair("104.5000", 3), code="2317  ", bids=BIDS, asks=ASKS)
-    yield row(4, pair("104.5000", 3), code="2317  ", asks=ASKS[:2], low=1)
+    yield row(4, pair("104.5000", 3), code="2317  ", asks=ASKS[:2])
     yield traded(4, pair("105.0000", 99999999), code="2317  ", bids=BIDS[:4])
     yield traded(5, pair("77.7000", 7), code="2454  ")
     yield row(4, pair("105.0000", 99999999), code="2317  ", bids=BIDS[:1], total=0)
@@ -104,7 +116,7 @@ def sides():
     for place, (bids, asks) in enumerate(itertools.product(range(6), range(6)), 9):
         code = f"S{bids}{asks}   "
         yield row(place, None, code=code, bids=ASKS[:5 - asks], asks=BIDS[:5 - bids])
-        yield traded(place, pair("1.0000", place), code=code, bids=BIDS[:5 - bids], asks=ASKS[:5 - asks], low=1)
+        yield traded(place, pair("1.0000", place), code=code, bids=BIDS[:5 - bids], asks=ASKS[:5 - asks])
         yield row(place, pair("1.0000", place), code=code, bids=BIDS[:bids], asks=ASKS[:asks])
 
 
@@ -140,12 +152,42 @@ def codes():
         yield row(next(place), None, code=code)
 
 
+def trades_alone():
+    """Levels that are not shown: the row keeps its sides, and a row that was never shown any has none. Time, limit, status, total
+    and the trade are the frame's. Levels that come behind them are the row's; refused ones beside the trade are not."""
+    # A burst on a row with levels, in two parts; then levels, none, and trades alone that keep none.
+    yield traded(102, pair("100.0000", 1), code="BURST ", bids=BIDS, asks=ASKS, time="09:00:00.000000", total=1)
+    for k in range(2, 6):
+        yield traded_alone(102, pair(f"100.{k:04}", k), BIDS, ASKS, code="BURST ", time=f"09:00:00.00000{k}", limit=k, total=k)
+    yield alone(102, pair("100.0005", 5), BIDS, ASKS, code="BURST ", time="09:00:00.000007", status=0)
+    yield traded(102, pair("100.0006", 6), code="BURST ", bids=BIDS[:2], asks=ASKS[:3], total=6)
+    yield traded_alone(102, pair("0.0000", 0), BIDS[:2], ASKS[:3], code="BURST ", total=7)
+    yield row(102, pair("0.0000", 0), code="BURST ", asks=ASKS[:1])
+    yield traded_alone(102, pair("1.0000", 8), asks=ASKS[:1], code="BURST ", time="08:00:00.000000", total=0)  # late
+    # Left with kept sides; with sides that were shown empty; never shown; shown at last; refused behind levels.
+    yield row(103, None, code="KEPT  ", bids=BIDS, asks=ASKS[:4])
+    yield alone(103, None, BIDS, ASKS[:4], code="KEPT  ", limit=255, status=255, total=99999999)
+    yield traded(104, TRADE, code="SHOWN0", bids=BIDS, asks=ASKS)
+    yield row(104, TRADE, code="SHOWN0")
+    yield traded_alone(104, pair("2.0000", 2), code="SHOWN0")
+    yield traded_alone(105, pair("3.0000", 3), code="NEVER ")
+    yield alone(105, pair("3.0000", 3), code="NEVER ", time="09:30:00.000000")
+    yield alone(106, None, code="ATLAST", total=0)
+    yield traded_alone(106, pair("4.0000", 4), code="ATLAST")
+    yield row(106, pair("4.0000", 4), code="ATLAST", bids=BIDS[:1], asks=ASKS[:2])
+    yield row(107, None, code="LEVELS", bids=BIDS[:3], asks=ASKS)
+    for reveal, listed in ((0xA3, 4), (0xA3, 1), (0x11, 1), (0x03, 0), (0xDB, 11)):
+        yield no_message(frames.frame("06", frames.quote(reveal, frames.levels(listed), b"LEVELS")))
+        yield no_message(frames.frame("06", frames.quote(reveal, frames.levels(listed), b"NO ROW")))
+
+
 def no_messages():
     """Other formats, refused and damaged frames of stocks that have a row, and the day's last frame."""
     for code in ("2330  ", "1101  ", "9999  "):
         yield from map(no_message, (data for data, _ in others(code)))
     yield last_of_day(status=0, total=0)
     yield last_of_day(trade=TRADE, bids=BIDS, asks=ASKS)
+    yield last_of_day(trade=TRADE, bids=None, asks=None)
     for case in refusals.CASES:
         yield from (no_message(data) for _, data, _, _ in case())
     for code in (b"2330  ", b"9999  "):
@@ -164,9 +206,12 @@ def full():
     for k in range(40):
         yield rowless(code=f"N{k:03}  ", trade=TRADE)
     yield rowless(code="n000  ")
+    yield rowless(code="N000  ", trade=TRADE, bids=None, asks=None)
+    yield rowless(code="N001  ", bids=None, asks=None)
     yield traded(255, pair("2.5500", 255), code="F255  ", bids=BIDS)
     yield rowless(code="N000  ", bids=BIDS, asks=ASKS)
-    yield row(102, None, code="F102  ", asks=ASKS)
+    yield traded_alone(255, pair("2.5600", 1), BIDS, code="F255  ")
+    yield row(108, None, code="F108  ", asks=ASKS)
     yield row(0, pair("598.0000", 49), code="2330  ", time="13:30:00.000000")
     yield last_of_day()
     yield rowless(code="N001  ")
@@ -183,6 +228,9 @@ def much():
         yield last_of_day(trade=TRADE)
     for place in REST[::2]:
         yield row(place, pair("99999.9999", 3), code=f"F{place:03}  ", bids=BIDS, asks=most, total=place)
+    for place in REST[::40]:
+        yield traded_alone(place, pair("0.0001", place), BIDS, most, code=f"F{place:03}  ")
+        yield alone(place + 1, pair("99999.9999", 3), most, most, code=f"F{place + 1:03}  ")
 
 
 def cut_at_the_end():
@@ -192,7 +240,7 @@ def cut_at_the_end():
     yield no_message(messages.quote(code="2330  ", trade=TRADE)[0][:-1])
 
 
-NOISY = [in_order_of_coming, last_trades, sides, late_ones, at_their_ends, codes]
+NOISY = [in_order_of_coming, last_trades, sides, late_ones, at_their_ends, codes, trades_alone]
 CASES = NOISY + [no_messages, full, much, cut_at_the_end]
 
 
@@ -226,8 +274,10 @@ def taken(moves):
         elif place == ROWS:
             yield at, REFUSED, None
         else:
-            old = rows[place]["trade"] if place < len(rows) else None
-            rows[place:place + 1] = [dict({key: told[key] for key in KEYS}, trade=told["trade"] or old)]
+            old = rows[place] if place < len(rows) else dict(trade=None, bids=[], asks=[])
+            kept = [] if told["trade"] else ["trade"]
+            kept += ["bids", "asks"] if told["bids"] is None else []
+            rows[place:place + 1] = [{key: old[key] if key in kept else told[key] for key in KEYS}]
             yield at, place, rows[place]
 
 

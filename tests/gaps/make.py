@@ -101,6 +101,8 @@ def no_arrivals():
     yield other("19", frames.halt(), 0)
     yield frames.frame("06", frames.quote(0xA2), "00000013", version="03"), None  # 8
     yield frames.frame("06", frames.quote(0x60), "00000014"), None  # 10
+    yield frames.frame("06", frames.quote(0xA3), "00000014"), None  # 10
+    yield frames.frame("06", frames.quote(0x03, b""), "00000014"), None  # 10
     yield frames.frame("06", frames.quote(time="240000000000"), "00000015"), None  # 12
     yield frames.frame("06", frames.quote(), "00000016", check=0xEE), None  # 5
     yield frames.frame("06", frames.quote(), "00000017")[1:], None
@@ -109,8 +111,8 @@ def no_arrivals():
 
 
 def all_sizes():
-    """Every number of pairs, in falling order."""
-    for n, reveal in zip(range(300, 200, -1), itertools.cycle((0x00, 0x80, 0xDA, 0x52, 0xDB, 0x1A))):
+    """Some, few and no pairs, and the trade alone, in falling order."""
+    for n, reveal in zip(range(300, 200, -1), itertools.cycle((0x00, 0x80, 0xDA, 0x52, 0x81, 0x1A, 0x01))):
         yield six("new", n, reveal)
 
 

@@ -75,14 +75,16 @@ def good_notices():
 
 
 def good_quotes():
-    """Every reveal byte with bit 0 unset, 00 with no pair to DA with eleven; then bit 0, and fields at their ends."""
+    """Every reveal byte with bit 0 unset, 00 with no pair to DA with eleven; then bit 0, which goes without levels, and fields
+    at their ends."""
     for trade in (0, 1):
         for bids in range(6):
             for asks in range(6):
                 yield good("06", quote(trade << 7 | bids << 4 | asks << 1))
     yield good("06", quote(0x01))
     yield good("06", quote(0x81))
-    yield good("06", quote(0xDB))
+    yield good("06", quote(0x81, packed("0999999999" + "99999999"), b"~~~~~~", "235959999999", 0xFF, 0xFF, "99999999"))
+    yield good("06", quote(0x81, packed("0000000000" + "00000000"), b"      ", "000000000000", total="00000000"))
     yield good("06", quote(0xA2, code=b"      ", time="000000000000", total="00000000"))
     yield good("06", quote(0xA2, code=b"~~~~~~", time="235959999999", total="99999999"))
     yield good("06", quote(0x80, packed("0999999999" + "99999999")))
@@ -90,9 +92,9 @@ def good_quotes():
     # Limit and status are handed on whole, a 27 too.
     yield good("06", quote(0x22, limit=0xFF, status=0xFF))
     yield good("06", quote(0x22, limit=0x1B, status=0x1B))
-    # The day's last frame, without pairs and with one.
-    yield good("06", quote(0x00, code=b"000000", time=NINES, total="00000000"))
-    yield good("06", quote(0x80, code=b"000000", time=NINES, total="00000000"))
+    # The day's last frame, without pairs and with one; with bit 0, too.
+    for reveal in (0x00, 0x80, 0x01, 0x81):
+        yield good("06", quote(reveal, code=b"000000", time=NINES, total="00000000"))
 
 
 def worked_quotes():
@@ -364,6 +366,11 @@ def assert_edges():
         assert (number, size) == (0, length)
         assert [len(message[side]) for side in ("trade", "bids", "asks")] == [trade, bids, asks]
     assert read(frame("06", quote(0x60)))[:2] == (10, 86)
+    # The trade alone: levels that are not shown are no empty sides.
+    for reveal, trade, length in ((0x01, 0, 32), (0x81, 1, 41)):
+        number, size, message = read(frame("06", quote(reveal)))
+        assert (number, size, len(message["trade"]), message["bids"], message["asks"]) == (0, length, trade, None, None)
+    assert read(frame("06", quote(0xA3)))[:2] == (10, 68)
     # 13 and 1,025 are no lengths; 14 and 1,024 pass that check, and wait for their bytes.
     assert [answer(f"1B {length}")[0] for length in ("0013", "1025", "0014", "1024")] == [3, 3, 2, 2]
     # The listing in docs/RULES.md, byte for byte.

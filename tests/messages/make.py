@@ -63,14 +63,16 @@ def ladder(n, first=99):
     return [pair(f"{first + k}.{5 * k:04}", 7 ** k) for k in range(n)]
 
 
-def quote(trade=None, bids=(), asks=(), code="2330  ", time="09:04:15.061278", limit=0, status=16, total=16423, low=0, seq=None):
-    """A quote; its reveal byte is the one for its pairs, with `low` for bit 0."""
-    reveal = (128 if trade else 0) + 16 * len(bids) + 2 * len(asks) + low
-    pairs = ([trade] if trade else []) + [*bids, *asks]
+def quote(trade=None, bids=(), asks=(), code="2330  ", time="09:04:15.061278", limit=0, status=16, total=16423, seq=None):
+    """A quote; its reveal byte is the one for its pairs. Sides that are not shown are None, both of them."""
+    shown = bids is not None
+    assert shown == (asks is not None)
+    pairs = ([trade] if trade else []) + ([*bids, *asks] if shown else [])
+    reveal = (128 if trade else 0) + (16 * len(bids) + 2 * len(asks) if shown else 1)
     body = code.encode() + packed(twelve_digits(time)) + bytes([reveal, limit, status]) + packed(f"{total:08}")
     body += b"".join(packed(ten_digits(p["price"]) + f"{p['quantity']:08}") for p in pairs)
     fields = dict(code=code, **timed(time, "last"), reveal=reveal, limit=limit, status=status, total=total, trade=trade,
-                  bids=list(bids), asks=list(asks))
+                  bids=list(bids) if shown else None, asks=list(asks) if shown else None)
     return numbered("06", body, fields, seq)
 
 
@@ -122,9 +124,25 @@ def notices():
 
 
 def quotes_by_reveal():
-    """Every reveal byte that is allowed, 00 with no pair to DB with eleven."""
-    for trade, bids, asks, low in itertools.product((0, 1), range(6), range(6), (0, 1)):
-        yield quote(pair("100.0000", 1) if trade else None, ladder(bids)[::-1], ladder(asks, 105), low=low)
+    """Every reveal byte that is allowed: 00 with no pair to DA with eleven, and 01 and 81, which show no levels."""
+    for trade, bids, asks in itertools.product((0, 1), range(6), range(6)):
+        yield quote(pair("100.0000", 1) if trade else None, ladder(bids)[::-1], ladder(asks, 105))
+    for trade in (None, pair("100.0000", 1)):
+        yield quote(trade, None, None)
+
+
+def trades_alone():
+    """A burst: trades alone, then the last one with levels; the trade alone at the ends of its fields, and in the day's last
+    frame, and the same without bit 0, whose sides are empty. Levels beside the trade alone have no object."""
+    for k in range(5):
+        yield quote(pair(f"100.{5000 - k:04}", k + 1), None, None, time=f"09:04:15.06127{k}", total=16423 + k)
+    yield quote(pair("100.4995", 6), ladder(5)[::-1], ladder(5, 105), time="09:04:15.061275", total=16428)
+    for sides in (None, ()):
+        for trade in (None, pair("0.0000", 0), pair("99999.9999", 99999999)):
+            yield quote(trade, sides, sides, '"\\~\\" ', "23:59:59.999999", 255, 255, 99999999)
+            yield quote(trade, sides, sides, "000000", None, 0, 0, 0)
+    for reveal, listed in ((0xA3, 4), (0xA3, 1), (0x11, 1), (0x03, 0), (0xDB, 11)):
+        yield frames.frame("06", frames.quote(reveal, frames.levels(listed))), None
 
 
 def quotes_at_their_ends():
@@ -197,7 +215,7 @@ def cut_at_the_end():
     yield data[:-1], None
 
 
-NOISY = [notices, quotes_by_reveal, quotes_at_their_ends, price_tables, halts]
+NOISY = [notices, quotes_by_reveal, trades_alone, quotes_at_their_ends, price_tables, halts]
 
 
 def the_line():
@@ -237,6 +255,11 @@ def pairs_of(listed):
     return [pair(price_of(p), quantity) for p, quantity in listed]
 
 
+def side_of(listed):
+    """The levels of a side, or None where they are not shown."""
+    return None if listed is None else pairs_of(listed)
+
+
 def slot_of(code, four, total, time):
     return dict(code=code.decode("ascii"), **dict(zip(FOUR, map(price_of, four))), total=total, **time_keys(time, "closing"))
 
@@ -247,8 +270,8 @@ def object_of(at, m):
         told.update(category=f"{m['category']:02}", text=m["text"].hex())
     if m["format"] == 6:
         told.update(code=m["code"].decode("ascii"), **time_keys(m["time"], "last"), reveal=m["reveal"], limit=m["limit"],
-                    status=m["status"], total=m["total"], trade=(pairs_of(m["trade"]) + [None])[0], bids=pairs_of(m["bids"]),
-                    asks=pairs_of(m["asks"]))
+                    status=m["status"], total=m["total"], trade=(pairs_of(m["trade"]) + [None])[0], bids=side_of(m["bids"]),
+                    asks=side_of(m["asks"]))
     if m["format"] == 12:
         told.update(count=m["count"], slots=[slot_of(*fields) for fields in m["slots"][:m["count"]]])
     if m["format"] == 19:
@@ -285,7 +308,8 @@ def main():
         assert len(shown) < SPARE
         again = json.loads(shown)
         assert again == told and json.dumps(again) == json.dumps(told), shown
-    for meaning in ('"time":null,"last":true,"reveal":', '"time":null,"closing":true}'):
+    for meaning in ('"time":null,"last":true,"reveal":', '"time":null,"closing":true}', '"trade":null,"bids":null,"asks":null}',
+                    '},"bids":null,"asks":null}', '"trade":null,"bids":[],"asks":[]}', '},"bids":[],"asks":[]}'):
         assert text.count(meaning) > 1, f"no object has {meaning}"
     assert {answer for _, answer, _, _ in moves} == set(range(14)), "every answer has to occur"
     assert min(len(line), len(text)) > 65536

@@ -96,8 +96,10 @@ def read_five(body):
 
 def read_six(body):
     code, reveal, limit, status = body[:6], body[12], body[13], body[14]
-    trade, bids, asks = reveal >> 7, reveal >> 4 & 7, reveal >> 1 & 7
+    trade, bids, asks, trade_only = reveal >> 7, reveal >> 4 & 7, reveal >> 1 & 7, reveal & 1
     if bids > 5 or asks > 5:
+        return 10, None
+    if trade_only and bids + asks > 0:
         return 10, None
     if len(body) != 19 + 9 * (trade + bids + asks):
         return 9, None
@@ -110,8 +112,10 @@ def read_six(body):
         return 12, None
     if not printable(code):
         return 13, None
+    # sides that are not shown are None, and sides without a level are empty
+    sides = (None, None) if trade_only else (pairs[trade:trade + bids], pairs[trade + bids:])
     return 0, dict(code=code, time=time, reveal=reveal, limit=limit, status=status, total=total, trade=pairs[:trade],
-                   bids=pairs[trade:trade + bids], asks=pairs[trade + bids:])
+                   bids=sides[0], asks=sides[1])
 
 
 def read_twelve(body):

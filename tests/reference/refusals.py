@@ -47,6 +47,8 @@ def refused_9_range():
     yield refused(9, "06", quote(0x60, b"")[:-1])
     yield refused(9, "06", quote(0x60, levels(11)) + b"k")
     yield refused(9, "06", quote(0xEE, levels(13)))
+    yield refused(9, "06", quote(0xA3, b"")[:-1])
+    yield refused(9, "06", quote(0xDB) + b"k")
     yield refused(9, "12", packed("01"))
     yield refused(9, "12", table(slot())[:-1])  # 373 bytes
     yield refused(9, "12", table(slot()) + b"\x00")  # 375 bytes
@@ -56,12 +58,27 @@ def refused_9_range():
 
 
 def refused_10():
-    """Six or seven levels on a side; before the length that they would call for, and before the digits."""
+    """Six or seven levels on a side, or levels where only the trade is sent; before the length that they would call for, and
+    before the digits."""
     for reveal in (0x60, 0x70, 0x0C, 0x0E, 0x66, 0xEE, 0xFF, 0x5C, 0xE2):
         yield refused(10, "06", quote(reveal, levels(min(shown(reveal), 11))))
     yield refused(10, "06", quote(0x60, b""))
     yield refused(10, "06", quote(0x0E, b"m"))
     yield refused(10, "06", quote(0x70, levels(7), b"\x00" * 6, "AAAAAAAAAAAA", total="BBBBBBBB"))
+    # Bit 0 with a level on one side or on both, with the trade and without, with the length that it would call for.
+    for reveal in (0x11, 0x03, 0x13, 0x5B, 0x91, 0x83, 0xA3, 0xDB):
+        yield refused(10, "06", quote(reveal))
+    # With the length of the trade alone, of no pair, of all pairs, and of no pairs that there are.
+    for listed in (levels(1), b"", levels(11), b"m", levels(11)[:-1]):
+        yield refused(10, "06", quote(0xA3, listed))
+    # Before bad digits, a wrong time, a wrong code, and all of these at once; in the day's last frame, too.
+    yield refused(10, "06", quote(0xA3, time="A90415061278"))
+    yield refused(10, "06", quote(0xA3, patched(levels(4), 0, 0x10)))
+    yield refused(10, "06", quote(0xA3, time="250000000000"))
+    yield refused(10, "06", quote(0xA3, code=b"000000"))
+    yield refused(10, "06", quote(0xA3, code=b"\x1f2330 "))
+    yield refused(10, "06", quote(0x11, b"", b"\x00" * 6, "AAAAAAAAAAAA", total="BBBBBBBB"))
+    yield refused(10, "06", quote(0x83, code=b"000000", time=NINES))
 
 
 def refused_9_reveal():
@@ -72,7 +89,10 @@ def refused_9_reveal():
     yield refused(9, "06", quote(0xA2, levels(4) + b"n"))
     yield refused(9, "06", quote(0x00, levels(1)))
     yield refused(9, "06", quote(0x01, b"n"))
+    yield refused(9, "06", quote(0x01, levels(1)))
     yield refused(9, "06", quote(0x80, b""))
+    yield refused(9, "06", quote(0x81, b""))
+    yield refused(9, "06", quote(0x81, levels(2)))
     yield refused(9, "06", quote(0xDA, levels(10)))
     yield refused(9, "06", quote(0xD6, levels(6)))  # the specification's example 5 prints D6 where its length calls for D0
     yield refused(9, "06", quote(0x10, b"", time="A00000000000"))
@@ -90,6 +110,7 @@ def refused_11_five_six_nineteen():
     for place in (0, 3):
         for offset, byte in ((0, 0x10), (0, 0x90), (0, 0xA0), (0, 0x0A), (4, 0x0F), (5, 0xA0), (8, 0x0E)):
             yield refused(11, "06", quote(0xA2, patched(levels(4), 9 * place + offset, byte)))
+    yield refused(11, "06", quote(0x81, patched(levels(1), 0, 0x10)))
     # The day's last frame with a bad digit; a bad digit, a wrong time and a wrong code at once.
     yield refused(11, "06", quote(code=b"000000", time=NINES, total="9999999C"))
     yield refused(11, "06", quote(code=b"\x00" * 6, time="250000000000", total="C0000000"))
@@ -123,6 +144,8 @@ def refused_12():
     yield refused(12, "06", quote(0x00, code=b"000000"))
     yield refused(12, "06", quote(0x00, code=b"000000", time="999999999998"))
     yield refused(12, "06", quote(0x00, code=b"\x7f" * 6, time=NINES))
+    yield refused(12, "06", quote(0x81, time="240000000000"))
+    yield refused(12, "06", quote(0x01, time=NINES))
     for time in ("240000000000", "006000000000", "000060000000", "999999000000", "999999999998"):
         yield refused(12, "12", table(slot(), slot(b"1102  ", time=time)))
     # Nines in a slot after the count, the next one and the last; under a count of 00 no slot is counted.
@@ -149,6 +172,7 @@ def refused_13():
     for byte in (0, 27, 31, 127, 128, 255):
         yield refused(13, "06", quote(0xA2, code=patched(b"2330  ", 5, byte)))
     yield refused(13, "06", quote(0xA2, code=b"\x1f2330 "))
+    yield refused(13, "06", quote(0x81, code=b"2330 \x7f"))
     # Counts of 00 and above 10; nines are times under a count above 10, which all slots are under.
     yield refused(13, "12", table(slot(), count="00"))
     yield refused(13, "12", table(count="00"))
