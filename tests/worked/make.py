@@ -46,6 +46,11 @@ EXAMPLE_5 = dict(seq=4567, code="2330  ", time="09:04:15.061278", reveal=0xD0, l
                  length=86, printed=0xA2, right=0xB7)
 EXAMPLE_5_D6 = dict(EXAMPLE_5, reveal=0xD6, right=0xB1)
 
+# No example sends the trade alone. By format six's page bit 0 of the reveal byte then is set: example 4 so, and example 1, whose
+# levels are refused beside it. The bit is in the check byte, too.
+TRADE_ONLY = dict(SIX[3], reveal=0x81, right=0xB8)
+TRADE_ONLY_LEVELS = dict(SIX[0], reveal=0xD7, right=0x7A)
+
 # Format nineteen, both tables: number, code, halted, resumed, state. Rows that the tables repeat are taken once.
 NINETEEN = """
 09:12:00   00000001 2330 091200 999999 I
@@ -229,6 +234,8 @@ def records():
     yield six_frame(EXAMPLE_5_D6, EXAMPLE_5_D6["printed"]), "answer 5"
     yield six_frame(EXAMPLE_5, None), six_line(EXAMPLE_5)
     yield six_frame(EXAMPLE_5_D6, None), "answer 9 length 86"
+    yield six_frame(TRADE_ONLY, None), six_line(TRADE_ONLY)
+    yield six_frame(TRADE_ONLY_LEVELS, None), "answer 10 length 113"
     for row in nineteen_rows():
         yield nineteen_frame(row), nineteen_line(row)
     for seq, slots in TWELVE:
