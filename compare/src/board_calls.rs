@@ -66,14 +66,41 @@ impl Sides {
 pub struct Calls {
     /// By the call and its answer.
     answers: BTreeMap<(&'static str, u8), u64>,
-    /// By what a message that is answered 0 does to its row.
+    /// By what a message that is answered 0 does to its row, and to the row's sides.
     taken: BTreeMap<&'static str, u64>,
     /// 14 where the board is full of other stocks too.
     full: u64,
 }
 
 /// What such a message can do.
-const TAKEN: [&str; 5] = ["days' ends", "new rows", "trades changed", "trades kept", "no trades yet"];
+const TAKEN: [&str; 9] = [
+    "days' ends",
+    "new rows",
+    "trades changed",
+    "trades kept",
+    "no trades yet",
+    "sides changed",
+    "sides kept",
+    "empty sides kept",
+    "new rows without levels shown",
+];
+
+/// What a message does to its row, and to the row's sides.
+fn changes(quote: &Quote, before: &board::Row, after: &board::Row) -> [&'static str; 2] {
+    let row = match (quote.trade(), after.trade) {
+        _ if before.is_free() => "new rows",
+        (Some(_), _) => "trades changed",
+        (None, Some(_)) => "trades kept",
+        (None, None) => "no trades yet",
+    };
+    let sides = match quote.bids() {
+        Some(_) => "sides changed",
+        None if before.is_free() => "new rows without levels shown",
+        None if before.bids.count + before.asks.count > 0 => "sides kept",
+        None => "empty sides kept",
+    };
+    [row, sides]
+}
 
 impl Calls {
     /// A message on any board: the answer, and all memory afterwards.
@@ -93,20 +120,14 @@ impl Calls {
         let is_full = |row: &board::Row| !row.is_free() && row.code != quote.code;
         self.full += u64::from(answer == 14 && before.iter().all(is_full));
         if answer == 0 {
-            let done = if quote.ends_the_day() {
-                "days' ends"
-            } else {
+            let mut done = vec!["days' ends"];
+            if !quote.ends_the_day() {
                 let place = sides.second.iter().position(|row| row.code == quote.code);
                 let place = place.ok_or("the second program has taken it and has no row of it")?;
                 expected.put(place, &sides.second[place]);
-                match (quote.trade(), sides.second[place].trade) {
-                    _ if before[place].is_free() => "new rows",
-                    (Some(_), _) => "trades changed",
-                    (None, Some(_)) => "trades kept",
-                    (None, None) => "no trades yet",
-                }
-            };
-            *self.taken.entry(done).or_default() += 1;
+                done = changes(quote, &before[place], &sides.second[place]).to_vec();
+            }
+            done.into_iter().for_each(|name| *self.taken.entry(name).or_default() += 1);
         } else if sides.second != before {
             return Err(format!("refused with {answer}, and the second program's rows change"));
         }

@@ -4,8 +4,8 @@
 use std::fmt;
 
 use second::reading::read_at;
-use second::seen::around;
-use second::Message;
+use second::seen::{around, cases, levels_case, shown_case, LEVELS, SHOWN};
+use second::{six, Message, Refusal};
 use trivsome::{raw, Code, Halt, Notice, Pair, Price, Prices, Quantity, Quote};
 
 use crate::same::{self, differ, outcome, told};
@@ -28,8 +28,12 @@ pub struct Readings {
     places: u64,
     /// By the answers' numbers, at every place.
     answers: [u64; 14],
+    /// Frames refused with 10, by their case.
+    levels: [u64; 3],
     /// Accepted frames of the formats five, six, twelve and nineteen.
     formats: [u64; 4],
+    /// Accepted quotes, by their case.
+    shown: [u64; 3],
     /// What is lent, and comes back as it was from a refusal.
     lent: Lent,
 }
@@ -119,6 +123,13 @@ fn same_message<T: PartialEq + fmt::Debug>(what: &str, proved: &T, second: &T) -
     }
 }
 
+/// What a quote says of its levels by its names: whether they are shown, and both sides.
+fn same_sides(proved: &Quote, second: &six::Quote) -> Result<(), String> {
+    same_message("whether levels are shown", &proved.shows_levels(), &second.bids().is_some())?;
+    same_message("the bids", &proved.bids(), &same::levels(second.bids()).as_deref())?;
+    same_message("the asks", &proved.asks(), &same::levels(second.asks()).as_deref())
+}
+
 impl Readings {
     /// Compares the readings at every place of a line and past its end, and of each frame with its line ending behind it or a
     /// byte before. Gives the accepted frames.
@@ -133,6 +144,9 @@ impl Readings {
             self.one(line, place, &answer, &fresh).map_err(within)?;
             if let Some(length) = answer.length() {
                 let end = place + length;
+                if matches!(answer, second::Answer::Refused { why: Refusal::Levels, .. }) {
+                    self.levels[levels_case(&line[place..end])] += 1;
+                }
                 let cut = |end: usize| {
                     let (proved, second) = (raw::read(&line[..end], place), outcome(&read_at(&line[..end], place)));
                     same_outcome("read", proved, second).map_err(|what| within(format!("cut at {end}, {what}")))
@@ -171,6 +185,8 @@ impl Readings {
             }
             Message::Six(six) => {
                 expected.quote = same::quote(six);
+                same_sides(&self.lent.quote, six)?;
+                self.shown[shown_case(six)] += 1;
                 1
             }
             Message::Twelve(twelve) => {
@@ -191,7 +207,9 @@ impl Readings {
     /// What did not occur.
     pub fn missed(&self) -> Option<String> {
         let answer = self.answers.iter().position(|&times| times == 0).map(|answer| format!("answer {answer}"));
-        answer.or_else(|| self.formats.contains(&0).then(|| "one of the formats".into()))
+        let mut cases = LEVELS.iter().zip(&self.levels).chain(SHOWN.iter().zip(&self.shown));
+        let case = cases.find(|(_, times)| **times == 0).map(|(name, _)| format!("of quotes, {name}"));
+        answer.or(case).or_else(|| self.formats.contains(&0).then(|| "one of the formats".into()))
     }
 }
 
@@ -199,6 +217,10 @@ impl fmt::Display for Readings {
     fn fmt(&self, f: &mut fmt::Formatter) -> fmt::Result {
         let [five, six, twelve, nineteen] = self.formats;
         write!(f, "{} places; five {five}, six {six}, twelve {twelve}, nineteen {nineteen};", self.places)?;
-        self.answers.iter().enumerate().try_for_each(|(answer, times)| write!(f, " {answer}:{times}"))
+        self.answers.iter().enumerate().try_for_each(|(answer, times)| write!(f, " {answer}:{times}"))?;
+        f.write_str("; 10 for ")?;
+        cases(f, &LEVELS, &self.levels)?;
+        f.write_str("; quotes with ")?;
+        cases(f, &SHOWN, &self.shown)
     }
 }

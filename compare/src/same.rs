@@ -71,6 +71,11 @@ pub fn quote(quote: &six::Quote) -> trivsome::Quote {
     }
 }
 
+/// The levels of a side, if they are shown.
+pub fn levels(side: Option<&[six::Pair]>) -> Option<Vec<trivsome::Pair>> {
+    side.map(|levels| levels.iter().map(pair).collect())
+}
+
 /// The row of a board. A last trade that there is not is zeros.
 pub fn row(row: &board::Row) -> trivsome::Row {
     trivsome::Row {

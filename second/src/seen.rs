@@ -13,17 +13,20 @@ use crate::units::Code;
 use crate::walk::{walk, Line};
 use crate::writing::{write, NotWritten};
 
+/// The cases of a frame that is refused with 10, and of a quote that is accepted, in the order of their counts.
+pub const LEVELS: [&str; 3] = ["six or seven levels", "levels beside the trade alone", "the same with another length"];
+pub const SHOWN: [&str; 3] = ["levels shown", "the trade alone", "nothing"];
+
 /// How often each answer occurred, over some lines.
 #[derive(Clone, Debug, Default, PartialEq, Eq)]
 pub struct Seen {
     /// By the answers' numbers, at every place of the walk.
     pub answers: [u64; 14],
-    /// Frames refused with 10 for six or seven levels; and for levels where only the trade is sent, with the length that the
-    /// reveal byte gives and with another.
+    /// Frames refused with 10, by their case; another length is one that the reveal byte does not give.
     pub levels: [u64; 3],
     /// Accepted frames of the formats five, six, twelve and nineteen. Each was written back and gave its own bytes.
     pub formats: [u64; 4],
-    /// Accepted quotes whose levels are shown; and those whose are not, with a trade and without.
+    /// Accepted quotes, by their case.
     pub shown: [u64; 3],
     /// Arrivals of format six that are new and repeated ones, and those refused with 21 and with 22.
     pub arrivals: [u64; 4],
@@ -47,7 +50,7 @@ impl Seen {
         for step in walk(line, Line::Closed) {
             self.answers[usize::from(step.answer.number())] += 1;
             if let Answer::Refused { length, why: reading::Refusal::Levels } = step.answer {
-                self.levels(Reveal::of(line[step.place + HEAD + REVEAL]), length);
+                self.levels[levels_case(&line[step.place..step.place + length])] += 1;
             }
             if let Answer::Accepted { length, message } = &step.answer {
                 write_back(&line[step.place..step.place + length], message)
@@ -86,11 +89,7 @@ impl Seen {
 
     /// Adds a quote that was read, and what a board does with it.
     fn take(&mut self, rows: &mut [Row], quote: &Quote) -> Result<(), String> {
-        self.shown[match (quote.bids(), quote.trade()) {
-            (Some(_), _) => 0,
-            (None, Some(_)) => 1,
-            (None, None) => 2,
-        }] += 1;
+        self.shown[shown_case(quote)] += 1;
         let before = board::ask(rows, &quote.code).ok().copied();
         self.taken[match board::take(rows, quote) {
             Ok(()) => usize::from(quote.ends_the_day()),
@@ -105,17 +104,6 @@ impl Seen {
             }] += 1;
         }
         Ok(())
-    }
-
-    /// Adds a frame refused with 10.
-    fn levels(&mut self, reveal: Reveal, length: usize) {
-        self.levels[if reveal.bids.max(reveal.asks) > MOST_LEVELS {
-            0
-        } else if length == reveal.length() {
-            1
-        } else {
-            2
-        }] += 1;
     }
 
     /// Adds a row at a line's end, and the quotes that it is from.
@@ -155,13 +143,12 @@ impl fmt::Display for Seen {
         for (answer, times) in self.answers.iter().enumerate() {
             write!(f, " {answer}:{times}")?;
         }
-        let [many, length, other] = self.levels;
-        write!(f, "; 10 for six or seven levels {many}, for levels beside the trade alone {length}, ")?;
-        write!(f, "with another length {other}")?;
+        f.write_str("; 10 for ")?;
+        cases(f, &LEVELS, &self.levels)?;
         let [five, six, twelve, nineteen] = self.formats;
         write!(f, "\naccepted and written back: five {five}, six {six}, twelve {twelve}, nineteen {nineteen}")?;
-        let [shown, trade, none] = self.shown;
-        write!(f, "; of six levels shown {shown}, the trade alone {trade}, nothing {none}")?;
+        f.write_str("; of six ")?;
+        cases(f, &SHOWN, &self.shown)?;
         let [new, repeat, number, full] = self.arrivals;
         write!(f, "\nnumbers of format six: new {new}, repeat {repeat}, 21 {number}, 22 {full}")?;
         let [taken, last, full] = self.taken;
@@ -173,6 +160,31 @@ impl fmt::Display for Seen {
         write!(f, "sides emptied {emptied}, codes escaped {escaped}; ")?;
         let [last, kept, none] = self.sides;
         write!(f, "sides shown last {last}, kept {kept}, still empty {none}")
+    }
+}
+
+/// Cases by their names, and how often each occurred.
+pub fn cases(f: &mut fmt::Formatter, names: &[&str], times: &[u64]) -> fmt::Result {
+    let shown: Vec<_> = names.iter().zip(times).map(|(name, times)| format!("{name} {times}")).collect();
+    f.write_str(&shown.join(", "))
+}
+
+/// Which case a frame is that is refused with 10.
+pub fn levels_case(frame: &[u8]) -> usize {
+    let reveal = Reveal::of(frame[HEAD + REVEAL]);
+    match reveal.bids.max(reveal.asks) {
+        most if most > MOST_LEVELS => 0,
+        _ if frame.len() == reveal.length() => 1,
+        _ => 2,
+    }
+}
+
+/// Which case a quote is that is accepted.
+pub fn shown_case(quote: &Quote) -> usize {
+    match (quote.bids(), quote.trade()) {
+        (Some(_), _) => 0,
+        (None, Some(_)) => 1,
+        (None, None) => 2,
     }
 }
 
