@@ -28,12 +28,12 @@ part() {
 
 for way in reading writing; do
     part $way 'five, text of 8' 'five, text of 60' 'six, no pairs' 'six, 9 pairs' 'six, 11 pairs' 'six, any pairs' \
-        'twelve, 10 slots' nineteen
+        'six, the trade alone' 'twelve, 10 slots' nineteen
 done
 part 'the answer alone' 'six, 9 pairs' 'six, 9 pairs, check byte wrong' 'noise, at each of its bytes'
 part arrivals 'in order' 'with gaps' 'half of them late' 'in order, 64 runs open' 'repeats, 64 runs open' 'refused with 22'
-part board 'taken, any of 256 stocks' 'the same, any pairs' 'the same, codes that begin alike' "taken, the first row's stock" "taken, the last row's stock" 'refused with 52' \
-    'asked for, any of 256 codes'
+part board 'taken, any of 256 stocks' 'the same, any pairs' 'the same, the trade alone' 'the same, codes that begin alike' \
+    "taken, the first row's stock" "taken, the last row's stock" 'refused with 52' 'asked for, any of 256 codes'
 part walk 'six, 9 pairs, 2 MB'
 bench/run.py nonsense >"$work/said" 2>&1
 [ $? -eq 2 ] || differs "an unknown part is not refused"

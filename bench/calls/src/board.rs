@@ -1,5 +1,6 @@
-//! A full board of 256 stocks: messages of 11 pairs taken, and of any; of stocks whose codes differ in the first four bytes, and in
-//! the last two alone; a message of a stock too many refused, and rows asked for.
+//! A full board of 256 stocks: messages of 11 pairs taken, of any, and of the trade alone, which keep the levels of their rows; of
+//! stocks whose codes differ in the first four bytes, and in the last two alone; a message of a stock too many refused, and
+//! rows asked for.
 
 use std::hint::black_box;
 
@@ -24,6 +25,11 @@ fn all_pairs(_: &mut Random) -> u8 {
     0xDA
 }
 
+/// Only a trade: a message changes the rest of its row, and keeps the levels.
+fn trade_alone(_: &mut Random) -> u8 {
+    kinds::TRADE_ALONE
+}
+
 /// A full board on both sides.
 struct Full {
     proved: Board,
@@ -44,6 +50,7 @@ pub fn board(effort: Effort) -> Result<Vec<Row>, String> {
     for (name, on, codes, reveal) in [
         ("taken, any of 256 stocks", stocks, &in_turn[..], all_pairs as fn(&mut Random) -> u8),
         ("the same, any pairs", stocks, &in_turn, kinds::any_pairs),
+        ("the same, the trade alone", stocks, &in_turn, trade_alone),
         ("the same, codes that begin alike", &alike, &alike_in_turn, all_pairs),
         ("taken, the first row's stock", stocks, &first, all_pairs),
         ("taken, the last row's stock", stocks, &last, all_pairs),

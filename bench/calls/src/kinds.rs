@@ -53,12 +53,16 @@ pub fn kinds() -> Result<Vec<Kind>, String> {
             let reveal = any_pairs(random);
             quote(random, number, reveal)
         })?,
+        Kind::new("six, the trade alone", 13, |random, number| quote(random, number, TRADE_ALONE))?,
         Kind::new("twelve, 10 slots", 7, prices)?,
         Kind::new("nineteen", 8, halt)?,
     ])
 }
 
-/// A reveal byte, of any trade and any levels.
+/// The reveal byte of a trade whose levels are not shown.
+pub const TRADE_ALONE: u8 = 0x81;
+
+/// A reveal byte, of any trade and any levels that are shown.
 pub fn any_pairs(random: &mut Random) -> u8 {
     (random.below(2) << 7 | random.below(6) << 4 | random.below(6) << 1) as u8
 }
