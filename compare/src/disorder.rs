@@ -12,7 +12,7 @@ type Put = fn(&mut Numbers, usize, &[Code], &mut Random);
 /// What stands in a head above the code.
 const MARKS: u64 = 0xFFFF << 48;
 
-const KINDS: [(&str, Put); 17] = [
+const KINDS: [(&str, Put); 18] = [
     ("rows of one code", |numbers, place, _, random| {
         let other = random.within(0..=ROWS - 1);
         numbers.heads[place] = numbers.heads[place] & MARKS | numbers.heads[other] & !MARKS;
@@ -60,6 +60,7 @@ const KINDS: [(&str, Put); 17] = [
     ("bits above what is shown", |numbers, place, _, random| {
         numbers.cells(place)[SHOWN] |= random.pick(&[1, 0x100, 0x8000_0000, 0xFFFF_FF00]) | random.any() as u32 & !0xFF;
     }),
+    ("bit 0 of what is shown", |numbers, place, _, _| numbers.cells(place)[SHOWN] |= 1),
     ("levels behind the count", |numbers, place, _, random| {
         let cells = numbers.cells(place);
         cells[3..SHOWN].fill_with(|| 1 + random.amount(99_999_998) as u32);

@@ -1,7 +1,8 @@
 //! A board in both forms: the library's heads and cells, and the second program's rows.
 //!
 //! A head is eight bytes, the lowest first: code, limit, status. A row's 26 cells are its total, the last trade, five bids and
-//! five asks, each as price and quantity, a byte that says which of them there are, and the time, its low half first.
+//! five asks, each as price and quantity, a byte that says which of them there are, and the time, its low half first. Bit 0 of
+//! that byte, which in a quote's says that levels are not shown, counts for nothing.
 
 use second::board::{Row, Side, ROWS};
 use second::six::Pair;
