@@ -19,12 +19,14 @@
  *                             7  business not 01, or none of the four formats
  *                             8  another version of the format
  *                             9  a length that the format, or the reveal byte, does not allow
- *                            10  a quote with 6 or 7 levels on a side
+ *                            10  a quote with 6 or 7 levels on a side, or with levels where its reveal byte says that only the
+ *                                trade is sent
  *                            11  a bad digit in the body
  *                            12  a time that breaks its rule
  *                            13  any other field that does
  *   writing                   0  written
- *                            14  the message breaks a rule, or what it leaves unused is not zero
+ *                            14  the message breaks a rule, what it leaves unused is not zero, or a quote says of its levels
+ *                                what its reveal byte does not
  *                            15  the buffer is too short
  *   walking a tally           0  done
  *                            16  a figure would pass the largest number
@@ -118,12 +120,17 @@ typedef struct {
     uint32_t quantity;
 } trivsome_pair;
 
+/* Whether a quote shows its levels. With TRIVSOME_LEVELS_SHOWN a side of no levels is empty. With TRIVSOME_LEVELS_NOT_SHOWN only
+ * the trade is sent, and nothing is said of either side: it need not be empty. */
+enum { TRIVSOME_LEVELS_SHOWN = 0, TRIVSOME_LEVELS_NOT_SHOWN = 1 };
+
 typedef struct {
     uint32_t seq;
     uint8_t code[6];
-    uint8_t reveal; /* which pairs there are: see the three functions below */
+    uint8_t reveal; /* which pairs there are, and in bit 0 that only the trade is sent: see the functions below */
     uint8_t limit;
     uint8_t status;
+    uint8_t levels; /* TRIVSOME_LEVELS_SHOWN or _NOT_SHOWN, as bit 0 of the reveal byte says */
     uint64_t time; /* HHMMSSffffff, or TRIVSOME_NINES with the code 000000: the day's last frame */
     uint32_t total;
     trivsome_pair trade; /* pairs that there are not are zeros */
@@ -131,6 +138,8 @@ typedef struct {
     trivsome_pair asks[5]; /* the best of each side first */
 } trivsome_quote;
 
+/* Whether there is a trade, and how many levels a side lists. Where the levels are not shown both are 0, and say nothing of the
+ * sides: look at levels first. */
 static inline bool trivsome_has_trade(const trivsome_quote *quote) { return quote->reveal >> 7 != 0; }
 static inline unsigned trivsome_bids(const trivsome_quote *quote) { return quote->reveal >> 4 & 7U; }
 static inline unsigned trivsome_asks(const trivsome_quote *quote) { return quote->reveal >> 1 & 7U; }
@@ -179,8 +188,9 @@ uint64_t trivsome_read(const uint8_t *line, size_t length, size_t at);
 
 /* The same answer, and the message. An accepted frame of another format is answered 0 with that format, and leaves the memory
  * for the message as it came. A notice's text has the frame's length less 14 bytes. The numbers of a quote: code, reveal,
- * limit, status; total, trade, bids, asks, each pair as price and quantity. Of prices: for each slot the code; opening,
- * highest, lowest, last, total; the time. Of a halt: event, records or halted, resume, state. */
+ * limit, status; total, trade, bids, asks, each pair as price and quantity. Bit 0 of the reveal byte alone says that the levels
+ * are not shown. Of prices: for each slot the code; opening, highest, lowest, last, total; the time. Of a halt: event, records
+ * or halted, resume, state. */
 uint64_t trivsome_read_notice_numbers(const uint8_t *line, size_t length, size_t at, uint8_t *category, uint8_t text[60]);
 uint64_t trivsome_read_quote_numbers(const uint8_t *line, size_t length, size_t at, uint8_t bytes[9], uint64_t *time, uint32_t amounts[23]);
 uint64_t trivsome_read_prices_numbers(const uint8_t *line, size_t length, size_t at, uint8_t *count, uint8_t codes[60], uint32_t amounts[50], uint64_t times[10]);
@@ -212,7 +222,8 @@ uint64_t trivsome_run(const uint32_t ends[129], uint32_t place);
 
 /* The board, by its heads and its cells: each call answers 50 unless there are TRIVSOME_BOARD_ROWS heads and
  * TRIVSOME_BOARD_CELLS cells. See trivsome_board below, and the calls that take one. The numbers of a row are those of a quote;
- * its reveal byte says in bit 7 that there is a last trade, in bits 4 to 6 how many bids and in bits 1 to 3 how many asks. */
+ * its reveal byte says in bit 7 that there is a last trade, in bits 4 to 6 how many bids and in bits 1 to 3 how many asks; bit 0
+ * is clear. */
 uint64_t trivsome_board_clear(uint64_t *heads, size_t head_count, uint32_t *cells, size_t cell_count);
 uint64_t trivsome_board_take_numbers(uint64_t *heads, size_t head_count, uint32_t *cells, size_t cell_count, uint32_t seq, const uint8_t bytes[9], uint64_t time, const uint32_t amounts[23]);
 uint64_t trivsome_board_ask_numbers(const uint64_t *heads, size_t head_count, const uint32_t *cells, size_t cell_count, const uint8_t code[6], uint8_t bytes[9], uint64_t *time, uint32_t amounts[23]);
@@ -252,6 +263,12 @@ static inline void trivsome_pairs(const uint32_t amounts[23], trivsome_pair *tra
     }
 }
 
+/* What a reveal byte says of the levels. */
+static inline uint8_t trivsome_levels_of(uint8_t reveal)
+{
+    return (reveal & 1) != 0 ? TRIVSOME_LEVELS_NOT_SHOWN : TRIVSOME_LEVELS_SHOWN;
+}
+
 /* A quote's nine bytes and its amounts. */
 static inline void trivsome_numbers(const trivsome_quote *quote, uint8_t bytes[9], uint32_t amounts[23])
 {
@@ -283,6 +300,7 @@ static inline uint64_t trivsome_read_quote(const uint8_t *line, size_t length, s
         quote->reveal = bytes[6];
         quote->limit = bytes[7];
         quote->status = bytes[8];
+        quote->levels = trivsome_levels_of(bytes[6]);
         quote->time = time;
         quote->total = amounts[0];
         trivsome_pairs(amounts, &quote->trade, quote->bids, quote->asks);
@@ -348,6 +366,8 @@ static inline uint64_t trivsome_write_quote(const trivsome_quote *quote, uint8_t
 {
     uint8_t bytes[9];
     uint32_t amounts[23];
+    if (quote->levels != trivsome_levels_of(quote->reveal))
+        return 14;
     trivsome_numbers(quote, bytes, amounts);
     return trivsome_write_quote_numbers(quote->seq, bytes, quote->time, amounts, buf, size);
 }
@@ -442,7 +462,7 @@ typedef struct {
 typedef struct {
     uint8_t code[6];
     bool has_trade; /* some quote of the stock had one */
-    uint8_t bid_count; /* how many levels there are, 0 to 5 */
+    uint8_t bid_count; /* how many levels the last quote that showed its levels had, 0 to 5; 0 if none did */
     uint8_t ask_count;
     uint8_t limit;
     uint8_t status;
@@ -475,12 +495,14 @@ static inline void trivsome_board_clear_all(trivsome_board *board)
 }
 
 /* Takes a quote into the row of its code, or else into the first free one: 0, 14 or 52. The row becomes the quote's; but a quote
- * without a trade leaves the last trade as it was. The day's last frame answers 0, and changes no row. What counts is the order
- * of the calls, not the times. */
+ * without a trade leaves the last trade as it was, and one whose levels are not shown leaves both sides as they were. The day's
+ * last frame answers 0, and changes no row. What counts is the order of the calls, not the times. */
 static inline uint64_t trivsome_board_take(trivsome_board *board, const trivsome_quote *quote)
 {
     uint8_t bytes[9];
     uint32_t amounts[23];
+    if (quote->levels != trivsome_levels_of(quote->reveal))
+        return 14;
     trivsome_numbers(quote, bytes, amounts);
     return trivsome_board_take_numbers(board->heads, TRIVSOME_BOARD_ROWS, board->cells, TRIVSOME_BOARD_CELLS, quote->seq, bytes, quote->time, amounts);
 }
