@@ -1,5 +1,6 @@
 // Prints what the quotes of a file said last, a line to a stock: code, last trade, best bid and best ask, each as price x quantity
-// or none. With a code behind the file it prints that stock's line alone.
+// or none. A quote whose levels are not shown leaves bid and ask as they were. With a code behind the file it prints that stock's
+// line alone.
 #include <stdio.h>
 #include "trivsome.h"
 

@@ -40,28 +40,42 @@ def accepted(line):
     return [m for m in messages if m["format"] == 6]
 
 
-def quotes(line):
+def shows_levels(message):
+    """Bit 0 of the reveal byte is clear: a side with no level is an empty one."""
+    return message["reveal"] & 1 == 0
+
+
+def quoted(m):
     zeros = shown(0, 0)
-    return "".join(f"{m['code'].decode('ascii')} {m['seq']} " + named(m["trade"], m["bids"], m["asks"], zeros) for m in accepted(line))
+    if shows_levels(m):
+        return named(m["trade"], m["bids"], m["asks"], zeros)
+    return f"trade {best(m['trade'], zeros)} levels not shown\n"
+
+
+def quotes(line):
+    return "".join(f"{m['code'].decode('ascii')} {m['seq']} " + quoted(m) for m in accepted(line))
 
 
 def board(line):
-    """Each stock's last quote, in the order in which the stocks came, with the last trade that any quote of it had."""
+    """Each stock's last quote, in the order in which the stocks came, with the last trade that any quote of it had, and the sides
+    of its last quote that showed its levels."""
     rows = {}
     for m in accepted(line):
         code = m["code"]
         if code != b"000000" and (code in rows or len(rows) < ROWS):
-            kept = rows[code][0] if code in rows else []
-            rows[code] = m["trade"] or kept, m["bids"], m["asks"]
+            trade, bids, asks = rows.get(code, ([], [], []))
+            if shows_levels(m):
+                bids, asks = m["bids"], m["asks"]
+            rows[code] = m["trade"] or trade, bids, asks
     return "".join(f"{code.decode('ascii')} " + named(*row, "none") for code, row in rows.items())
 
 
 def many():
-    """Each stock comes twice. Most rows keep the trade of the first quote, with the levels of the second, or with none."""
-    reveals = [0xDA, 0x00, 0x80, 0x24, 0x12]
+    """Each stock comes twice, with any two of these reveal bytes. Rows keep the first quote's trade, its sides, both or neither."""
+    first, second = [0xDA, 0x00, 0x80, 0x24, 0x12, 0x81, 0x01], [0x00, 0x80, 0x24, 0x81, 0x01]
     codes = [f"S{i:03}  ".encode("ascii") for i in range(MANY)]
-    bodies = [frames.quote(reveals[i % 5], code=code) for i, code in enumerate(codes)]
-    bodies += [frames.quote(reveals[i % 3 + 1], code=code) for i, code in enumerate(codes)]
+    bodies = [frames.quote(first[i % len(first)], code=code) for i, code in enumerate(codes)]
+    bodies += [frames.quote(second[i % len(second)], code=code) for i, code in enumerate(codes)]
     bodies.insert(MANY, frames.quote(0x80, code=b"000000", time=frames.NINES))
     return b"".join(frames.frame("06", body, f"{i + 1:08}") for i, body in enumerate(bodies))
 

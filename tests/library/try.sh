@@ -90,6 +90,10 @@ python3 tests/library/make.py many >"$work/many" && python3 tests/library/make.p
 expect 0 "$work/board" "$work/many" >"$work/out" 2>"$work/said"
 cmp "$work/out" "$work/expected" || differs "board prints something else of more stocks than it has rows"
 [ "$(cat "$work/said")" = "board: 88 quotes are of stocks that found no row" ] || differs "quotes that found no row are not counted"
+python3 tests/library/make.py quotes "$work/many" >"$work/expected" || differs "tests/library/make.py failed"
+grep -q ' levels not shown$' "$work/expected" || differs "there is no quote whose levels are not shown"
+expect 0 "$work/quotes" "$work/many" >"$work/out"
+cmp "$work/out" "$work/expected" || differs "quotes prints something else of quotes whose levels are not shown"
 
 ./trivsome --help | grep -q 'trivsome library' || differs "--help does not name the library"
 
