@@ -19,6 +19,12 @@ static const uint8_t HALT[26] = {0x1B, 0x00, 0x26, 0x01, 0x19, 0x01, 0x00, 0x00,
 static const uint8_t QUOTE[41] = {0x1B, 0x00, 0x41, 0x01, 0x06, 0x04, 0x00, 0x00, 0x83, 0x25, 0x31, 0x33, 0x30, 0x31,
                                   0x20, 0x20, 0x09, 0x45, 0x19, 0x03, 0x30, 0x17, 0x80, 0x81, 0x00, 0x00, 0x00, 0x15,
                                   0x58, 0x00, 0x00, 0x33, 0x50, 0x00, 0x00, 0x00, 0x00, 0x00, 0xB9, 0x0D, 0x0A};
+// The same with only the trade sent, and with not even that.
+static const uint8_t TRADE_ONLY[41] = {0x1B, 0x00, 0x41, 0x01, 0x06, 0x04, 0x00, 0x00, 0x83, 0x25, 0x31, 0x33, 0x30, 0x31,
+                                       0x20, 0x20, 0x09, 0x45, 0x19, 0x03, 0x30, 0x17, 0x81, 0x81, 0x00, 0x00, 0x00, 0x15,
+                                       0x58, 0x00, 0x00, 0x33, 0x50, 0x00, 0x00, 0x00, 0x00, 0x00, 0xB8, 0x0D, 0x0A};
+static const uint8_t NO_PAIR[32] = {0x1B, 0x00, 0x32, 0x01, 0x06, 0x04, 0x00, 0x00, 0x83, 0x25, 0x31, 0x33, 0x30, 0x31, 0x20, 0x20,
+                                    0x09, 0x45, 0x19, 0x03, 0x30, 0x17, 0x01, 0x81, 0x00, 0x00, 0x00, 0x15, 0x58, 0x28, 0x0D, 0x0A};
 
 // All five readings answer the same, and leave their structs as they were.
 static void refused(const uint8_t *line, size_t length, size_t at, uint64_t expected)
@@ -163,7 +169,8 @@ static void writing_notices(void)
 static void writing_quotes(void)
 {
     uint8_t buf[140];
-    trivsome_quote q = {8325, {'1', '3', '0', '1', ' ', ' '}, 0x80, 0x81, 0, 94519033017, 1558, {335000, 0}, {{0, 0}}, {{0, 0}}}, again;
+    trivsome_quote q = {8325, {'1', '3', '0', '1', ' ', ' '}, 0x80, 0x81, 0, TRIVSOME_LEVELS_SHOWN, 94519033017, 1558, {335000, 0}, {{0, 0}}, {{0, 0}}};
+    trivsome_quote again;
     FILL(buf);
     HOLDS(trivsome_write_quote(&q, buf, 41) == outcome(0, 0, 41, 0));
     HOLDS(memcmp(buf, QUOTE, 41) == 0 && filled(buf + 41, sizeof buf - 41));
@@ -190,6 +197,91 @@ static void writing_quotes(void)
     HOLDS(again.seq == q.seq && memcmp(again.code, q.code, 6) == 0 && again.time == q.time && again.total == q.total);
     HOLDS(again.reveal == q.reveal && again.limit == q.limit && again.status == q.status && same_pair(again.trade, q.trade));
     for (int i = 0; i < 5; i++) HOLDS(same_pair(again.bids[i], q.bids[i]) && same_pair(again.asks[i], q.asks[i]));
+}
+
+// The frame QUOTE with another byte at a place, and the check byte that goes with it.
+static void quote_with(uint8_t line[41], size_t at, uint8_t byte)
+{
+    memcpy(line, QUOTE, 41);
+    line[at] = byte, line[38] ^= QUOTE[at] ^ byte;
+}
+
+// Bit 0 of the reveal byte: only the trade is sent. Levels that are not shown are no empty sides, and none stand beside it.
+static void reading_levels(void)
+{
+    uint8_t line[41];
+    trivsome_quote q;
+    HOLDS(offsetof(trivsome_quote, levels) == 13 && offsetof(trivsome_quote, time) == 16); // in what was padding
+    FILL(q);
+    HOLDS(trivsome_read_quote(QUOTE, 41, 0, &q) == outcome(0, 6, 41, 8325) && q.levels == TRIVSOME_LEVELS_SHOWN);
+    FILL(q);
+    HOLDS(trivsome_read_quote(TRADE_ONLY, 41, 0, &q) == outcome(0, 6, 41, 8325) && q.levels == TRIVSOME_LEVELS_NOT_SHOWN);
+    HOLDS(q.reveal == 0x81 && q.limit == 0x81 && q.status == 0 && q.total == 1558 && q.time == 94519033017);
+    HOLDS(trivsome_has_trade(&q) && q.trade.price == 335000 && trivsome_bids(&q) == 0 && trivsome_asks(&q) == 0);
+    for (int i = 0; i < 5; i++) HOLDS(q.bids[i].price == 0 && q.bids[i].quantity == 0 && q.asks[i].price == 0 && q.asks[i].quantity == 0);
+    FILL(q);
+    HOLDS(trivsome_read_quote(NO_PAIR, 32, 0, &q) == outcome(0, 6, 32, 8325) && q.levels == TRIVSOME_LEVELS_NOT_SHOWN);
+    HOLDS(q.reveal == 0x01 && !trivsome_has_trade(&q) && trivsome_bids(&q) == 0 && trivsome_asks(&q) == 0 && q.trade.price == 0);
+
+    // every reveal byte over one pair
+    for (unsigned reveal = 0; reveal < 256; reveal++) {
+        unsigned trade = reveal >> 7, bids = reveal >> 4 & 7, asks = reveal >> 1 & 7;
+        bool only_trade = reveal % 2 == 1, ten = bids > 5 || asks > 5 || (only_trade && bids + asks > 0);
+        unsigned answer = ten ? 10 : trade + bids + asks != 1 ? 9 : 0;
+        uint8_t levels = only_trade ? TRIVSOME_LEVELS_NOT_SHOWN : TRIVSOME_LEVELS_SHOWN;
+        quote_with(line, 22, (uint8_t)reveal);
+        if (answer != 0) refused(line, 41, 0, outcome(answer, 0, 41, 0));
+        else HOLDS(trivsome_read_quote(line, 41, 0, &q) == outcome(0, 6, 41, 8325) && q.reveal == reveal && q.levels == levels);
+    }
+    // 10 before 11 and 12: a level beside bit 0, and a bad digit in the total, or an hour of 24
+    quote_with(line, 22, 0x11), line[27] ^= 0x0F, line[38] ^= 0x0F;
+    refused(line, 41, 0, outcome(10, 0, 41, 0));
+    quote_with(line, 22, 0x03), line[16] ^= 0x2D, line[38] ^= 0x2D;
+    refused(line, 41, 0, outcome(10, 0, 41, 0));
+    // and behind the first 9: a frame longer than any quote
+    uint8_t long_line[132] = {0};
+    memcpy(long_line, TRADE_ONLY, 38);
+    long_line[1] = 0x01, long_line[2] = 0x32, long_line[22] = 0x11, long_line[130] = 0x0D, long_line[131] = 0x0A;
+    for (int i = 1; i < 129; i++) long_line[129] ^= long_line[i];
+    refused(long_line, 132, 0, outcome(9, 0, 132, 0));
+}
+
+static void writing_levels(void)
+{
+    uint8_t buf[140], bytes[9] = {'1', '3', '0', '1', ' ', ' ', 0x11, 0, 0};
+    uint32_t amounts[23] = {0};
+    trivsome_quote q, again;
+    FILL(buf);
+    HOLDS(trivsome_is_quote(trivsome_read_quote(TRADE_ONLY, 41, 0, &q)) && trivsome_write_quote(&q, buf, sizeof buf) == outcome(0, 0, 41, 0));
+    HOLDS(memcmp(buf, TRADE_ONLY, 41) == 0 && filled(buf + 41, sizeof buf - 41));
+    FILL(again);
+    HOLDS(trivsome_is_quote(trivsome_read_quote(buf, 41, 0, &again)) && again.levels == TRIVSOME_LEVELS_NOT_SHOWN && again.reveal == 0x81);
+    FILL(buf);
+    HOLDS(trivsome_write_quote(&q, buf, 40) == 15 && FILLED(buf));
+    // of its levels it says what its reveal byte does not, either way, or what nobody says; 14 before 15
+    q.levels = TRIVSOME_LEVELS_SHOWN;
+    HOLDS(trivsome_write_quote(&q, buf, sizeof buf) == 14 && FILLED(buf) && trivsome_write_quote(&q, NULL, 0) == 14);
+    q.levels = TRIVSOME_LEVELS_NOT_SHOWN, q.reveal = 0x80;
+    HOLDS(trivsome_write_quote(&q, buf, sizeof buf) == 14 && FILLED(buf) && trivsome_write_quote(&q, NULL, 0) == 14);
+    for (unsigned other = 2; other < 256; other++) {
+        q.levels = (uint8_t)other, q.reveal = (uint8_t)(0x80 + other % 2);
+        HOLDS(trivsome_write_quote(&q, buf, sizeof buf) == 14 && FILLED(buf));
+    }
+    // levels where none are shown: a bid, an ask, and one that the reveal byte does not count
+    q.levels = TRIVSOME_LEVELS_NOT_SHOWN, q.reveal = 0x91;
+    HOLDS(trivsome_write_quote(&q, buf, sizeof buf) == 14 && FILLED(buf));
+    q.reveal = 0x83;
+    HOLDS(trivsome_write_quote(&q, buf, sizeof buf) == 14 && FILLED(buf));
+    q.reveal = 0x81, q.bids[0].quantity = 1;
+    HOLDS(trivsome_write_quote(&q, buf, sizeof buf) == 14 && FILLED(buf));
+    HOLDS(trivsome_write_quote_numbers(1, bytes, 0, amounts, buf, sizeof buf) == 14 && FILLED(buf));
+    // no pair at all: not shown, and none
+    bytes[6] = 0x01;
+    HOLDS(trivsome_write_quote_numbers(1, bytes, 0, amounts, buf, sizeof buf) == outcome(0, 0, 32, 0));
+    HOLDS(trivsome_is_quote(trivsome_read_quote(buf, 32, 0, &again)) && again.levels == TRIVSOME_LEVELS_NOT_SHOWN);
+    bytes[6] = 0x00;
+    HOLDS(trivsome_write_quote_numbers(1, bytes, 0, amounts, buf, sizeof buf) == outcome(0, 0, 32, 0));
+    HOLDS(trivsome_is_quote(trivsome_read_quote(buf, 32, 0, &again)) && again.levels == TRIVSOME_LEVELS_SHOWN);
 }
 
 static void writing_prices(void)
@@ -476,7 +568,7 @@ static void taking(void)
     HOLDS(trivsome_board_row(&board, 0, &same) == 0 && same.time == r.time && same_pair(same.asks[2], r.asks[2]));
 
     // all eleven pairs; the row of another stock stays, and has no trade yet
-    trivsome_quote second = {1, {'2', '3', '3', '0', ' ', ' '}, 0, 0, 0, 1, 0, {0, 0}, {{0, 0}}, {{0, 0}}};
+    trivsome_quote second = {1, {'2', '3', '3', '0', ' ', ' '}, 0, 0, 0, TRIVSOME_LEVELS_SHOWN, 1, 0, {0, 0}, {{0, 0}}, {{0, 0}}};
     HOLDS(trivsome_board_take(&board, &second) == 0 && trivsome_figure(trivsome_board_in_use(&board)) == 2);
     q.reveal = 0xDA, q.trade.price = 999999999, q.trade.quantity = 99999999;
     for (uint32_t i = 0; i < 5; i++) {
@@ -492,10 +584,75 @@ static void taking(void)
     HOLDS(board_kept());
 }
 
+// The row's sides are those of the quote.
+static bool sides_of(const trivsome_row *row, const trivsome_quote *quote)
+{
+    bool same = row->bid_count == trivsome_bids(quote) && row->ask_count == trivsome_asks(quote);
+    for (int i = 0; i < 5; i++) same = same && same_pair(row->bids[i], quote->bids[i]) && same_pair(row->asks[i], quote->asks[i]);
+    return same;
+}
+
+// Levels that are not shown leave both sides of the row as they were; all else is the quote's.
+static void keeping_sides(void)
+{
+    trivsome_quote q = {1, {'1', '3', '0', '1', ' ', ' '}, 0xD2, 3, 4, TRIVSOME_LEVELS_SHOWN, 5, 6, {7, 8}, {{0, 0}}, {{9, 10}}};
+    const trivsome_quote empty = {0};
+    trivsome_quote trade_only, last;
+    trivsome_row r;
+    for (uint32_t i = 0; i < 5; i++) q.bids[i].price = 1000 + i, q.bids[i].quantity = 2000 + i;
+    HOLDS(trivsome_board_take(&board, &q) == 0);
+    HOLDS(trivsome_is_quote(trivsome_read_quote(TRADE_ONLY, 41, 0, &trade_only)) && trivsome_board_take(&board, &trade_only) == 0);
+    HOLDS(trivsome_board_ask(&board, q.code, &r) == 0 && sides_of(&r, &q) && trivsome_figure(trivsome_board_in_use(&board)) == 1);
+    HOLDS(r.time == 94519033017 && r.limit == 0x81 && r.status == 0 && r.total == 1558 && r.has_trade && same_pair(r.trade, trade_only.trade));
+    // the row's own reveal byte has bit 0 clear
+    uint8_t bytes[9];
+    uint64_t time;
+    uint32_t amounts[23];
+    HOLDS(trivsome_board_row_numbers(board.heads, 256, board.cells, 6656, 0, bytes, &time, amounts) == 0 && bytes[6] == 0xD2);
+
+    // neither a trade nor levels: both stay
+    trade_only.reveal = 0x01, trade_only.trade.price = 0, trade_only.time = 11, trade_only.total = 12;
+    HOLDS(trivsome_board_take(&board, &trade_only) == 0 && trivsome_board_row(&board, 0, &r) == 0 && sides_of(&r, &q));
+    HOLDS(r.time == 11 && r.total == 12 && r.has_trade && r.trade.price == 335000);
+
+    // what could not be written: of its levels it says what its reveal byte does not, or it has some
+    other = board;
+    trade_only.levels = TRIVSOME_LEVELS_SHOWN, trade_only.time = 13;
+    HOLDS(trivsome_board_take(&board, &trade_only) == 14 && board_kept());
+    trade_only.levels = TRIVSOME_LEVELS_NOT_SHOWN, trade_only.reveal = 0x00;
+    HOLDS(trivsome_board_take(&board, &trade_only) == 14 && board_kept());
+    trade_only.levels = 2;
+    HOLDS(trivsome_board_take(&board, &trade_only) == 14 && board_kept());
+    trade_only.levels = TRIVSOME_LEVELS_NOT_SHOWN, trade_only.reveal = 0x11;
+    HOLDS(trivsome_board_take(&board, &trade_only) == 14 && board_kept());
+    trade_only.reveal = 0x03;
+    HOLDS(trivsome_board_take(&board, &trade_only) == 14 && board_kept());
+    // the day's last frame changes nothing with bit 0 set either
+    trade_only.reveal = 0x01, last = trade_only, last.time = TRIVSOME_NINES, memcpy(last.code, "000000", 6);
+    HOLDS(trivsome_board_take(&board, &last) == 0 && board_kept());
+
+    // a row never shown levels has empty sides, and takes those that come
+    memcpy(trade_only.code, "2330  ", 6);
+    HOLDS(trivsome_board_take(&board, &trade_only) == 0 && trivsome_board_row(&board, 1, &r) == 0 && memcmp(r.code, "2330  ", 6) == 0);
+    HOLDS(sides_of(&r, &empty) && !r.has_trade && r.trade.price == 0 && r.time == 13);
+    memcpy(q.code, "2330  ", 6), q.reveal = 0x52, q.trade = empty.trade;
+    HOLDS(trivsome_board_take(&board, &q) == 0 && trivsome_board_row(&board, 1, &r) == 0 && sides_of(&r, &q) && !r.has_trade);
+    // levels that are shown, and none: empty sides, which the next trade keeps
+    q = empty, q.time = 14, memcpy(q.code, "2330  ", 6);
+    HOLDS(trivsome_board_take(&board, &q) == 0 && trivsome_board_row(&board, 1, &r) == 0 && sides_of(&r, &empty));
+    HOLDS(trivsome_board_take(&board, &trade_only) == 0 && trivsome_board_row(&board, 1, &r) == 0 && sides_of(&r, &empty));
+    HOLDS(trivsome_board_row(&board, 0, &r) == 0 && r.bid_count == 5 && r.ask_count == 1 && r.asks[0].price == 9);
+
+    // nothing is left of what a free row held
+    memset(&board, 0xFF, sizeof board), board.heads[9] = 0;
+    HOLDS(trivsome_board_take(&board, &trade_only) == 0 && trivsome_board_row(&board, 9, &r) == 0 && sides_of(&r, &empty) && !r.has_trade);
+    trivsome_board_clear_all(&board), trivsome_board_clear_all(&other);
+}
+
 // 256 stocks, and what a full board still takes.
 static void full_board(void)
 {
-    trivsome_quote q = {1, {'0', '0', '0', '0', ' ', ' '}, 0, 0, 0, 0, 0, {0, 0}, {{0, 0}}, {{0, 0}}};
+    trivsome_quote q = {1, {'0', '0', '0', '0', ' ', ' '}, 0, 0, 0, TRIVSOME_LEVELS_SHOWN, 0, 0, {0, 0}, {{0, 0}}, {{0, 0}}};
     trivsome_row r;
     for (uint32_t i = 0; i < 256; i++) {
         q.code[0] = (uint8_t)('A' + i / 16), q.code[3] = (uint8_t)('a' + i % 16), q.time = i;
@@ -511,7 +668,7 @@ static void full_board(void)
     HOLDS(trivsome_board_take(&board, &q) == 52 && board_kept());
     q.reveal = 0x60;
     HOLDS(trivsome_board_take(&board, &q) == 14 && board_kept()); // 14 before 52
-    trivsome_quote last = {2, {'0', '0', '0', '0', '0', '0'}, 0, 0, 0, TRIVSOME_NINES, 0, {0, 0}, {{0, 0}}, {{0, 0}}};
+    trivsome_quote last = {2, {'0', '0', '0', '0', '0', '0'}, 0, 0, 0, TRIVSOME_LEVELS_SHOWN, TRIVSOME_NINES, 0, {0, 0}, {{0, 0}}, {{0, 0}}};
     HOLDS(trivsome_board_take(&board, &last) == 0 && board_kept() && not_asked("000000"));
     q.reveal = 0, q.code[0] = 'P', q.code[3] = 'p', q.total = 9;
     HOLDS(trivsome_board_take(&board, &q) == 0 && !board_kept() && trivsome_board_row(&board, 255, &r) == 0 && r.total == 9);
@@ -540,6 +697,8 @@ int main(void)
     zeros();
     writing_notices();
     writing_quotes();
+    reading_levels();
+    writing_levels();
     writing_prices();
     writing_halts();
     walking();
@@ -548,6 +707,7 @@ int main(void)
     all_lengths();
     clear_board();
     taking();
+    keeping_sides();
     full_board();
     return wrong;
 }

@@ -40,6 +40,10 @@ static void there_and_back()
     uint64_t read = trivsome_read_prices(frame.data(), frame.size(), 0, &again);
     HOLDS(trivsome_is_prices(read) && !trivsome_is_quote(read) && again.seq == 7 && again.count == 1);
     HOLDS(memcmp(again.slots[0].code, "2330  ", 6) == 0 && memcmp(again.slots[9].code, "      ", 6) == 0);
+    trivsome_quote quote = {}, same = {};
+    memcpy(quote.code, "2330  ", 6), quote.reveal = 0x01, quote.levels = TRIVSOME_LEVELS_NOT_SHOWN;
+    HOLDS(trivsome_write_quote(&quote, frame.data(), frame.size()) == outcome(0, 0, 32, 0));
+    HOLDS(trivsome_is_quote(trivsome_read_quote(frame.data(), frame.size(), 0, &same)) && same.levels == TRIVSOME_LEVELS_NOT_SHOWN);
 }
 
 static void ledger()
@@ -61,6 +65,14 @@ static void boards()
     HOLDS(trivsome_board_take(board.get(), &quote) == 0 && trivsome_figure(trivsome_board_in_use(board.get())) == 1);
     HOLDS(trivsome_board_ask(board.get(), quote.code, &row) == 0 && row.has_trade && row.trade.price == 5);
     HOLDS(trivsome_board_row(board.get(), 0, &row) == 0 && trivsome_board_row(board.get(), 1, &row) == 51);
+    // a bid, and then a trade alone, which keeps it; a quote that contradicts itself is not taken
+    quote.reveal = 0x10, quote.trade.price = 0, quote.bids[0].price = 6;
+    HOLDS(trivsome_board_take(board.get(), &quote) == 0);
+    quote.reveal = 0x81, quote.levels = TRIVSOME_LEVELS_NOT_SHOWN, quote.trade.price = 7, quote.bids[0].price = 0;
+    HOLDS(trivsome_board_take(board.get(), &quote) == 0 && trivsome_board_row(board.get(), 0, &row) == 0);
+    HOLDS(row.trade.price == 7 && row.bid_count == 1 && row.bids[0].price == 6 && row.ask_count == 0);
+    quote.levels = TRIVSOME_LEVELS_SHOWN;
+    HOLDS(trivsome_board_take(board.get(), &quote) == 14);
     std::vector<uint64_t> heads(board->heads, board->heads + TRIVSOME_BOARD_ROWS), no_heads;
     std::vector<uint32_t> cells(board->cells, board->cells + TRIVSOME_BOARD_CELLS), no_cells;
     HOLDS(trivsome_board_rows(heads.data(), heads.size(), cells.data(), cells.size()) == 256);
