@@ -32,7 +32,8 @@ pub struct Row {
     pub asks: [Pair; 5],
     /// The stock.
     pub code: Code,
-    /// Which pairs there are: the last trade in bit 7, how many bids in bits 4 to 6, how many asks in bits 1 to 3.
+    /// Which pairs there are: the last trade in bit 7, how many bids in bits 4 to 6, how many asks in bits 1 to 3. Bit 0 is
+    /// clear: a row has the sides that were shown last.
     pub reveal: u8,
     /// The limit byte of the last quote.
     pub limit: u8,
@@ -78,13 +79,13 @@ impl Row {
         (self.reveal & 0x80 != 0).then_some(self.trade)
     }
 
-    /// The bid levels that are used, best first.
+    /// The bid levels of the last quote that showed its levels, best first; none before there was one.
     #[inline]
     pub fn bids(&self) -> &[Pair] {
         used(&self.bids, self.reveal >> 4)
     }
 
-    /// The ask levels that are used, best first.
+    /// The ask levels, likewise.
     #[inline]
     pub fn asks(&self) -> &[Pair] {
         used(&self.asks, self.reveal >> 1)
@@ -137,7 +138,8 @@ impl Board {
     }
 
     /// Takes a quote into the row of its code, or else into the first free one. A quote without a trade leaves the last
-    /// trade as it was; the day's last frame changes no row. What counts is the order of the calls, not the times.
+    /// trade as it was, and one whose levels are not shown leaves both sides as they were; the day's last frame changes no
+    /// row. What counts is the order of the calls, not the times.
     #[inline]
     pub fn take(&mut self, quote: &Quote) -> Result<(), NotTaken> {
         match raw::board_take(&mut self.heads[..], &mut self.cells[..], quote) {

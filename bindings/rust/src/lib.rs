@@ -6,7 +6,8 @@
 //! # let bytes = [0x1B, 0x00, 0x14, 0x01, 0x05, 0x01, 0x00, 0x00, 0x00, 0x01, 0x09, 0x19, 0x0D, 0x0A];
 //! for step in trivsome::Moves::new(&bytes, trivsome::Line::Closed) {
 //!     if let Ok((frame, quote)) = trivsome::read_quote(&bytes, step.at) {
-//!         for bid in quote.bids() {
+//!         let Some(bids) = quote.bids() else { continue }; // only the trade is sent, and nothing is said of the sides
+//!         for bid in bids {
 //!             println!("{} {} {} x {}", frame.seq, quote.code, bid.price, bid.quantity);
 //!         }
 //!     }
@@ -22,7 +23,7 @@
 //! assert_eq!(why.to_string(), "another format: 5");
 //! ```
 //!
-//! A board keeps what the quotes of each stock said last:
+//! A board keeps what the quotes of each stock said last, and its sides through quotes that send only their trade:
 //!
 //! ```
 //! # let bytes = [0x1B, 0x00, 0x14, 0x01, 0x05, 0x01, 0x00, 0x00, 0x00, 0x01, 0x09, 0x19, 0x0D, 0x0A];

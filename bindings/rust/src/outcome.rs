@@ -162,7 +162,7 @@ impl fmt::Display for Answer {
             7 => "another business or format",
             8 => "another version",
             9 => "a length that the format does not have",
-            10 => "a level count of 6 or 7",
+            10 => "a level count of 6 or 7, or levels where only the trade is sent",
             11 => "a bad digit in the body",
             12 => "a time that breaks its rule",
             _ => "a field that breaks its rule",

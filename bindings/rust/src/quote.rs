@@ -4,7 +4,8 @@ use crate::outcome::{written, Frame, NotRead, NotWritten, Outcome};
 use crate::raw;
 use crate::units::{Code, Pair, Quantity, LONG_NINES};
 
-/// A stock's quote. Its own reveal byte says which of the trade, the bids and the asks are used; the others are zero.
+/// A stock's quote. Its own reveal byte says which of the trade, the bids and the asks are used; the others are zero. It also
+/// says whether the levels are shown at all: levels that are not shown are no empty sides.
 ///
 /// The order of the fields is that of the library's numbers, so that a quote is read straight into them.
 #[derive(Clone, Copy, Debug, Default, PartialEq, Eq, Hash)]
@@ -18,13 +19,14 @@ pub struct Quote {
     pub total: Quantity,
     /// The trade, if the reveal byte shows one.
     pub trade: Pair,
-    /// Best first.
+    /// Best first. [`Quote::bids`] tells a side that is empty from one that is not shown.
     pub bids: [Pair; 5],
     /// Best first.
     pub asks: [Pair; 5],
     /// The stock.
     pub code: Code,
-    /// Which pairs there are: the trade in bit 7, how many bids in bits 4 to 6, how many asks in bits 1 to 3.
+    /// Which pairs there are: the trade in bit 7, how many bids in bits 4 to 6, how many asks in bits 1 to 3. Bit 0 says that
+    /// only the trade is sent: then both counts are 0, and anything else is refused, with 10 in reading and 14 in writing.
     pub reveal: u8,
     /// The limit byte as it stands in the frame.
     pub limit: u8,
@@ -42,16 +44,22 @@ impl Quote {
         (self.reveal & 0x80 != 0).then_some(self.trade)
     }
 
-    /// The bid levels that are used, best first.
+    /// Whether the levels are shown. If not, only the trade is sent, and nothing is said of either side.
     #[inline]
-    pub fn bids(&self) -> &[Pair] {
-        used(&self.bids, self.reveal >> 4)
+    pub fn shows_levels(&self) -> bool {
+        self.reveal & 1 == 0
     }
 
-    /// The ask levels that are used, best first.
+    /// The bid levels that are used, best first, and no level of a side that is empty; `None` if the levels are not shown.
     #[inline]
-    pub fn asks(&self) -> &[Pair] {
-        used(&self.asks, self.reveal >> 1)
+    pub fn bids(&self) -> Option<&[Pair]> {
+        self.shows_levels().then(|| used(&self.bids, self.reveal >> 4))
+    }
+
+    /// The ask levels, likewise.
+    #[inline]
+    pub fn asks(&self) -> Option<&[Pair]> {
+        self.shows_levels().then(|| used(&self.asks, self.reveal >> 1))
     }
 
     /// Whether this is the day's last frame.

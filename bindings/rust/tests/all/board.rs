@@ -69,6 +69,58 @@ fn a_quote_without_a_trade_keeps_the_last_one() {
     assert_eq!(board.row(1).map(|row| (row.code, row.trade(), row.reveal)), Some((Code(*b"1101  "), None, 0)));
 }
 
+/// A quote of stock 2330 that sends at most a trade, with other fields than the frames'.
+fn only_trade(reveal: u8, trade: Pair) -> Quote {
+    Quote { reveal, trade, limit: 5, status: 6, total: Quantity(7), ..quote_of(b"2330  ", 8) }
+}
+
+#[test]
+fn a_quote_that_shows_no_levels_keeps_both_sides() {
+    let mut board = Board::new();
+    let (_, first) = read_quote(&frames::quote(0xA2, 4), 0).expect("accepted");
+    let (bids, asks) = ([pair(2, 20), pair(3, 30)], [pair(4, 40)]);
+    // the second sends a trade, the third not even that: the row has the second's trade, and still the first's sides
+    for (quote, trade) in [
+        (first, pair(1, 10)),
+        (only_trade(0x81, pair(9, 90)), pair(9, 90)),
+        (only_trade(0x01, pair(0, 0)), pair(9, 90)),
+    ] {
+        assert_eq!(board.take(&quote), Ok(()));
+        let row = board.row(0).expect("there");
+        assert_eq!((row.bids(), row.asks(), row.trade(), row.reveal), (&bids[..], &asks[..], Some(trade), 0xA2));
+        assert_eq!((row.limit, row.status, row.total, row.time), (quote.limit, quote.status, quote.total, quote.time));
+        assert_eq!((row.bids, row.asks), (first.bids, first.asks));
+    }
+    // sides that are shown and empty are the row's, and stay it
+    for quote in [quote_of(b"2330  ", 9), only_trade(0x81, pair(1, 1))] {
+        assert_eq!(board.take(&quote), Ok(()));
+        let row = board.row(0).expect("there");
+        assert_eq!((row.bids(), row.asks(), row.bids, row.asks), (&[][..], &[][..], [pair(0, 0); 5], [pair(0, 0); 5]));
+    }
+    assert_eq!(board.rows(), 1);
+}
+
+#[test]
+fn a_stock_that_showed_no_levels_yet_has_empty_sides() {
+    // a free row of numbers that no quotes leave, of which nothing stays
+    let mut heads = [u64::MAX; 256];
+    heads[9] = 0;
+    for (mut board, place) in [(Board::new(), 0), (Board::from_lists(&heads, &[u32::MAX; 6656]), 9)] {
+        assert_eq!(board.take(&only_trade(0x01, pair(0, 0))), Ok(()));
+        let row = board.row(place).expect("there");
+        assert_eq!((row.code, row.trade(), row.reveal), (Code(*b"2330  "), None, 0));
+        assert_eq!((row.bids(), row.asks(), row.bids, row.asks), (&[][..], &[][..], [pair(0, 0); 5], [pair(0, 0); 5]));
+        assert_eq!(board.take(&only_trade(0x81, pair(0, 0))), Ok(()));
+        assert_eq!(board.row(place).map(|row| (row.trade(), row.reveal)), Some((Some(pair(0, 0)), 0x80)));
+        // a level of zeros is a level, and is kept as one
+        for quote in [Quote { reveal: 0x12, ..quote_of(b"2330  ", 1) }, only_trade(0x01, pair(0, 0))] {
+            assert_eq!(board.take(&quote), Ok(()));
+            let row = board.row(place).expect("there");
+            assert_eq!((row.bids(), row.asks(), row.reveal), (&[pair(0, 0)][..], &[pair(0, 0)][..], 0x92));
+        }
+    }
+}
+
 #[test]
 fn what_could_not_be_written_is_not_taken() {
     let mut board = full();
@@ -78,7 +130,8 @@ fn what_could_not_be_written_is_not_taken() {
     let high = Quote { seq: 100_000_000, ..quote_of(&code(0), 1) };
     let six = Quote { reveal: 0x60, ..quote_of(b"NEW   ", 1) };
     let unused = Quote { asks, ..quote_of(&code(0), 1) };
-    for wrong in [Quote::default(), zeros, high, six, unused] {
+    let levels = Quote { reveal: 0x11, ..quote_of(&code(0), 1) };
+    for wrong in [Quote::default(), zeros, high, six, unused, levels] {
         assert_eq!(board.take(&wrong), Err(NotTaken::Message));
         assert_eq!(board, before);
     }
@@ -98,6 +151,7 @@ fn a_full_board_takes_no_other_stock() {
     assert_eq!(NotTaken::Full.to_string(), "52: all rows are those of other stocks");
     // the day's last frame answers 0, and touches no row
     assert_eq!(board.take(&quote_of(b"000000", LONG_NINES)), Ok(()));
+    assert_eq!(board.take(&Quote { reveal: 0x01, ..quote_of(b"000000", LONG_NINES) }), Ok(()));
     assert_eq!(board, before);
     assert_eq!(board.take(&quote_of(&code(255), 1)), Ok(()));
     assert_eq!(board.row(255).map(|row| row.time), Some(1));

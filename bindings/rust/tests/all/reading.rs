@@ -81,8 +81,8 @@ fn the_reveal_byte_gives_the_pairs_and_the_length() {
     assert_eq!((read.code, read.time, read.total), (Code(*b"2330  "), 90_415_061_278, Quantity(12_345)));
     assert_eq!((read.reveal, read.limit, read.status), (0xA2, 1, 2));
     assert_eq!(read.trade(), Some(pair(1)));
-    assert_eq!(read.bids(), [pair(2), pair(3)]);
-    assert_eq!(read.asks(), [pair(4)]);
+    assert_eq!(read.bids(), Some(&[pair(2), pair(3)][..]));
+    assert_eq!(read.asks(), Some(&[pair(4)][..]));
     assert!(read.bids[2..].iter().chain(&read.asks[1..]).all(|&pair| pair == Pair::default()));
 }
 
@@ -91,9 +91,47 @@ fn all_pairs_none_and_too_many() {
     let (frame, all) = read_quote(&quote(0xDA, 11), 0).expect("accepted");
     assert_eq!((frame.length, all.asks[4].price), (131, Price(11)));
     let (frame, none) = read_quote(&quote(0x00, 0), 0).expect("accepted");
-    assert_eq!((frame.length, none.trade(), none.bids().len(), none.asks().len()), (32, None, 0, 0));
+    assert_eq!((frame.length, none.trade(), none.bids(), none.asks()), (32, None, Some(&[][..]), Some(&[][..])));
     assert_eq!(read_quote(&quote(0x60, 6), 0), Err(NotRead::Refused(10, 86)));
     assert_eq!(read_quote(&quote(0xA2, 3), 0), Err(NotRead::Refused(9, 59)));
+}
+
+#[test]
+fn levels_that_are_not_shown_are_not_none() {
+    // only the trade is sent
+    let (frame, read) = read_quote(&quote(0x81, 1), 0).expect("accepted");
+    assert_eq!((frame.length, read.reveal, read.limit, read.status, read.total), (41, 0x81, 1, 2, Quantity(12_345)));
+    assert_eq!(read.trade(), Some(Pair { price: Price(1), quantity: Quantity(10) }));
+    assert_eq!((read.shows_levels(), read.bids(), read.asks()), (false, None, None));
+    assert_eq!((read.bids, read.asks), ([Pair::default(); 5], [Pair::default(); 5]));
+    // and not even that
+    let (frame, read) = read_quote(&quote(0x01, 0), 0).expect("accepted");
+    assert_eq!((frame.length, read.trade(), read.bids(), read.asks()), (32, None, None, None));
+    // a trade and two sides that are empty
+    let (_, none) = read_quote(&quote(0x80, 1), 0).expect("accepted");
+    assert_eq!((none.shows_levels(), none.bids(), none.asks()), (true, Some(&[][..]), Some(&[][..])));
+}
+
+#[test]
+fn levels_where_none_are_shown_answer_10() {
+    let refused = |reveal, pairs| read_quote(&quote(reveal, pairs), 0).expect_err("refused");
+    // an ask, a bid, both, all; with a trade and without; with as many pairs as the counts say
+    for (reveal, pairs) in [(0x03, 1), (0x11, 1), (0x13, 2), (0x83, 2), (0x91, 2), (0xA3, 4), (0x5B, 10), (0xDB, 11)] {
+        assert_eq!(refused(reveal, pairs), NotRead::Refused(10, 32 + 9 * usize::from(pairs)));
+    }
+    // before the length that the reveal byte gives, and behind the lengths of the format
+    assert_eq!(refused(0xA3, 0), NotRead::Refused(10, 32));
+    assert_eq!(refused(0xA3, 12), NotRead::Refused(9, 140));
+    assert_eq!(refused(0x81, 0), NotRead::Refused(9, 32));
+    assert_eq!(refused(0x01, 1), NotRead::Refused(9, 41));
+    // before a bad digit and a wrong time, which with the levels shown answer
+    for (at, byte, number) in [(15, 0x0A, 11), (6, 0x24, 12)] {
+        let mut body = quote(0x11, 1)[10..38].to_vec();
+        body[at] = byte;
+        assert_eq!(read(&around(6, 4, &body), 0).answer(), Answer::Refused(10, 41));
+        body[12] = 0x10;
+        assert_eq!(read(&around(6, 4, &body), 0).answer(), Answer::Refused(number, 41));
+    }
 }
 
 #[test]
@@ -137,7 +175,7 @@ fn a_frame_of_another_format_is_said_to_be_one() {
     assert_eq!(words(&quote(0xA2, 4)), [six, "read", six, six]);
     assert_eq!(words(&HALT), [nineteen, nineteen, nineteen, "read"]);
     assert_eq!(words(&NOTICE[..13]), ["2: there are too few bytes"; 4]);
-    assert_eq!(words(&quote(0x60, 6)), ["10: a level count of 6 or 7"; 4]);
+    assert_eq!(words(&quote(0x60, 6)), ["10: a level count of 6 or 7, or levels where only the trade is sent"; 4]);
 }
 
 #[test]

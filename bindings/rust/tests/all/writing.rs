@@ -4,7 +4,7 @@ use crate::frames::{quote, HALT, NOTICE};
 
 #[test]
 fn a_message_that_was_read_is_written_as_its_frame() {
-    for frame in [NOTICE.to_vec(), HALT.to_vec(), quote(0xA2, 4), quote(0xDA, 11), quote(0x01, 0)] {
+    for frame in [NOTICE.to_vec(), HALT.to_vec(), quote(0xA2, 4), quote(0xDA, 11), quote(0x81, 1), quote(0x01, 0)] {
         let (_, message) = read_message(&frame, 0).expect("accepted");
         let mut buffer = vec![0xEE; frame.len() + 1];
         assert_eq!(write(&message, &mut buffer), Ok(frame.len()));
@@ -56,6 +56,47 @@ fn an_unused_level_is_zero() {
     let (_, mut read) = read_quote(&quote(0xA2, 4), 0).expect("accepted");
     read.asks[1].quantity = Quantity(1);
     assert_eq!(write_quote(&read, &mut [0; 131]), Err(NotWritten::Message));
+}
+
+#[test]
+fn levels_are_not_written_where_none_are_shown() {
+    let (_, read) = read_quote(&quote(0xA2, 4), 0).expect("accepted");
+    let none = [Pair::default(); 5];
+    let wrong = [
+        Quote { reveal: 0xA3, ..read },
+        Quote { reveal: 0xA1, asks: none, ..read },
+        Quote { reveal: 0x83, bids: none, ..read },
+        Quote { reveal: 0x11, trade: none[0], bids: none, asks: none, ..read },
+        // levels that the counts leave unused
+        Quote { reveal: 0x81, asks: none, ..read },
+        Quote { reveal: 0x81, bids: none, ..read },
+    ];
+    for message in wrong {
+        let mut buffer = [0xEE; 131];
+        assert_eq!(write_quote(&message, &mut buffer), Err(NotWritten::Message));
+        assert_eq!(write_quote(&message, &mut []), Err(NotWritten::Message));
+        assert_eq!(buffer, [0xEE; 131]);
+    }
+}
+
+#[test]
+fn levels_not_shown_are_never_read_back_as_none() {
+    let (_, read) = read_quote(&quote(0x80, 1), 0).expect("accepted");
+    for (reveal, trade) in [(0x80, read.trade), (0x00, Pair::default())] {
+        let empty = Quote { reveal, trade, ..read };
+        let not_shown = Quote { reveal: reveal | 1, ..empty };
+        let [empty, not_shown] = [empty, not_shown].map(|message| {
+            let mut buffer = [0; 131];
+            let length = write_quote(&message, &mut buffer).expect("written");
+            let (frame, again) = read_quote(&buffer, 0).expect("accepted");
+            assert_eq!((frame.length, again), (length, message));
+            again
+        });
+        assert_eq!((empty.bids(), empty.asks()), (Some(&[][..]), Some(&[][..])));
+        assert_eq!((not_shown.bids(), not_shown.asks()), (None, None));
+        assert_eq!(empty.trade(), not_shown.trade());
+        assert_ne!(empty, not_shown);
+    }
 }
 
 #[test]
