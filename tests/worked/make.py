@@ -181,7 +181,10 @@ def six_line(q):
 
     line = f"six {q['seq']} [{q['code']}] {q['time']}"
     line += f" reveal {q['reveal']:02X} limit {q['limit']:02X} status {q['status']:02X} total {q['total']}"
-    return line + pairs("trade", [q["trade"]]) + pairs("bids", q["bids"]) + pairs("asks", q["asks"])
+    line += pairs("trade", [q["trade"]])
+    if q["reveal"] & 1:
+        return line + " levels not shown"
+    return line + pairs("bids", q["bids"]) + pairs("asks", q["asks"])
 
 
 def nineteen_rows():
