@@ -16,7 +16,7 @@ use stock_board_flat::row_at;
 use stock_board_flat::take;
 use stock_quotes_numbers::quote_amounts;
 use stock_quotes_numbers::quote_bytes;
-use stock_quotes_numbers::whole::whole_quote;
+use stock_quotes_numbers::quote_of;
 
 // Of an answer, which has nothing beside it.
 fn answer_outcome(answer: BoardAnswer) -> u64
@@ -70,7 +70,7 @@ pub extern "C" fn trivsome_board_take_numbers(
     ensures { λ r. ⌜ r ≡ answerOutcome (takenAnswer (flat (now (heads .entry)) (now (cells .entry))) (quoteFrom seq (now (bytes .entry)) time (now (amounts .entry)))) ⌝ }
     ensures { λ _. ⌜ flat (now (heads .exit)) (now (cells .exit)) ≡ takenFlat (flat (now (heads .entry)) (now (cells .entry))) (quoteFrom seq (now (bytes .entry)) time (now (amounts .entry))) ⌝ }
 {
-    let quote = whole_quote(seq, bytes, time, amounts);
+    let quote = quote_of(seq, bytes, time, amounts);
     answer_outcome(take(heads, cells, quote))
 }
 

@@ -6,6 +6,7 @@ ghost use mathlib.Core.List.{[], _∷_, _++_};
 ghost use lib.Dec.{ltb};
 ghost use lib.ListN.{length, getD, take, drop};
 ghost use lib.Seq.{sets};
+ghost use Rattle.layout.specs.Lists.{listed};
 ghost use Rattle.stock_board.specs.Rows.{freeRow, rowAfter};
 ghost use Rattle.stock_quotes.specs.declared.Levels.the-variants.{NotShown};
 ghost use Rattle.stock_board.specs.declared.LastTrade.the-variants.{NoneYet};
@@ -84,6 +85,38 @@ fn time_of(low: u32, high: u32) -> u64
     low as u64 + HALF * high as u64
 }
 
+// The amounts among a row's 26 cells.
+fn amounts_in(cells: &[u32]) -> [u32; 23]
+    requires { ⌜ length (now cells) ≡ 26 ⌝ }
+    ensures { λ r. ⌜ r ≡ listed 23 0 0 (now (cells .entry)) ⌝ }
+{
+    [
+        cells[0],
+        cells[1],
+        cells[2],
+        cells[3],
+        cells[4],
+        cells[5],
+        cells[6],
+        cells[7],
+        cells[8],
+        cells[9],
+        cells[10],
+        cells[11],
+        cells[12],
+        cells[13],
+        cells[14],
+        cells[15],
+        cells[16],
+        cells[17],
+        cells[18],
+        cells[19],
+        cells[20],
+        cells[21],
+        cells[22],
+    ]
+}
+
 // The quote of a head and its 26 cells.
 fn quote_from(head: u64, cells: &[u32]) -> Quote
     requires { ⌜ length (now cells) ≡ 26 ⌝ }
@@ -91,7 +124,7 @@ fn quote_from(head: u64, cells: &[u32]) -> Quote
 {
     let marks = marks_of(head, (cells[23] % 256 / 2 * 2) as u8);
     let time = time_of(cells[24], cells[25]);
-    quote_of(0, &marks, time, cells)
+    quote_of(0, &marks, time, &amounts_in(cells))
 }
 
 // The pair of a last trade, zeros where there is none yet.

@@ -13,9 +13,6 @@ use Rattle.stock_quotes_numbers.proofs.quote_amounts.Reads as quote-amo
 use Rattle.stock_quotes_numbers.proofs.quote_of
 use Rattle.stock_quotes_numbers.proofs.quote_of.Kinds as quote-of-kinds
 use Rattle.stock_quotes_numbers.proofs.quote_of.Reads as quote-of-reads
-use Rattle.stock_quotes_numbers.proofs.whole.whole_quote
-use Rattle.stock_quotes_numbers.proofs.whole.whole_quote.Kinds as whole-quote-kinds
-use Rattle.stock_quotes_numbers.proofs.whole.whole_quote.Reads as whole-quote-reads
 
 pub determined-quote-bytes : (κs : Lifetimes.Lfts 0) (a : World.ArgsD quote_bytes.signature κs) (r₁ r₂ : World.ResD quote_bytes.signature κs)
     (s₁ s₂ : Clauses.AtExit (kinds.endedOf 0 quote-bytes-kinds.ps quote-bytes-kinds.r) κs) → quote-bytes-reads.Post κs a r₁ s₁ → quote-bytes-reads.Post κs a r₂ s₂ → r₁ ≡ r₂
@@ -28,7 +25,3 @@ determined-quote-amounts κs a r₁ r₂ s₁ s₂ p q = p ∙ sym q
 pub determined-quote-of : (κs : Lifetimes.Lfts 2) (a : World.ArgsD quote_of.signature κs) (r₁ r₂ : World.ResD quote_of.signature κs)
     (s₁ s₂ : Clauses.AtExit (kinds.endedOf 2 quote-of-kinds.ps quote-of-kinds.r) κs) → quote-of-reads.Post κs a r₁ s₁ → quote-of-reads.Post κs a r₂ s₂ → r₁ ≡ r₂
 determined-quote-of κs a r₁ r₂ s₁ s₂ p q = p ∙ sym q
-
-pub determined-whole-quote : (κs : Lifetimes.Lfts 2) (a : World.ArgsD whole_quote.signature κs) (r₁ r₂ : World.ResD whole_quote.signature κs)
-    (s₁ s₂ : Clauses.AtExit (kinds.endedOf 2 whole-quote-kinds.ps whole-quote-kinds.r) κs) → whole-quote-reads.Post κs a r₁ s₁ → whole-quote-reads.Post κs a r₂ s₂ → r₁ ≡ r₂
-determined-whole-quote κs a r₁ r₂ s₁ s₂ p q = p ∙ sym q

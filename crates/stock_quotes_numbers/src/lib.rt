@@ -10,8 +10,6 @@ use codes_times::code_at;
 use stock_quotes::Levels;
 use stock_quotes::Quote;
 
-pub mod whole;
-
 // A quote's code, reveal, limit and status bytes.
 pub fn quote_bytes(q: Quote) -> [u8; 9]
     ensures { λ r. ⌜ r ≡ quoteBytes q ⌝ }
@@ -65,7 +63,7 @@ pub fn quote_amounts(q: Quote) -> [u32; 23]
 }
 
 // The byte at a place; 0 past the end.
-pub(crate) fn byte_at(bytes: &[u8], at: usize) -> u8
+fn byte_at(bytes: &[u8], at: usize) -> u8
     ensures { λ r. ⌜ r ≡ getD (now (bytes .entry)) at 0 ⌝ }
 {
     if at < bytes.len() {
@@ -75,7 +73,7 @@ pub(crate) fn byte_at(bytes: &[u8], at: usize) -> u8
 }
 
 // The amount at a place; 0 past the end.
-pub(crate) fn amount_at(amounts: &[u32], at: usize) -> u32
+fn amount_at(amounts: &[u32], at: usize) -> u32
     ensures { λ r. ⌜ r ≡ getD (now (amounts .entry)) at 0 ⌝ }
 {
     if at < amounts.len() {
@@ -85,7 +83,7 @@ pub(crate) fn amount_at(amounts: &[u32], at: usize) -> u32
 }
 
 // The pair at a place of the amounts.
-pub(crate) fn pair_at(amounts: &[u32], at: usize) -> Pair
+fn pair_at(amounts: &[u32], at: usize) -> Pair
     requires { ⌜ at < 22 ⌝ }
     ensures { λ r. ⌜ r ≡ pairAt (now (amounts .entry)) at ⌝ }
 {
@@ -95,8 +93,8 @@ pub(crate) fn pair_at(amounts: &[u32], at: usize) -> Pair
     }
 }
 
-// The quote of a number, such bytes, a time and such amounts; bytes and amounts that there are not are 0.
-pub fn quote_of(seq: u32, bytes: &[u8], time: u64, amounts: &[u32]) -> Quote
+// The quote of a number, nine bytes, a time and 23 amounts. It is lent arrays, so that the compiler knows that every place is there.
+pub fn quote_of(seq: u32, bytes: &[u8; 9], time: u64, amounts: &[u32; 23]) -> Quote
     ensures { λ r. ⌜ r ≡ quoteFrom seq (now (bytes .entry)) time (now (amounts .entry)) ⌝ }
 {
     let code = code_at(bytes, 0);

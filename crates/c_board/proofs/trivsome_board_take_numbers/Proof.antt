@@ -15,8 +15,8 @@ start k = k .before .before .before .before .before .before
 abbrev board : tie.After-take → Flat
 board k = let a = start k .args in flat (a .heads .now) (a .cells .now)
 
-whole-quote-requires : tie.Need-whole-quote-requires
-whole-quote-requires c κs = search needs
+quote-of-requires : tie.Need-quote-of-requires
+quote-of-requires c κs = search needs
 
 take-requires : tie.Need-take-requires
 take-requires c κs = search needs
@@ -33,14 +33,14 @@ same-length-2 c = search needs
 returns : tie.Need-returns
 returns c =
     let k = c .before .before .before .before .before in
-    let told = k .before .before .before .whole-quote .ensures in
+    let told = k .before .before .before .quote-of .ensures in
     (c .answer-outcome .ensures ∙ ap answerOutcome (k .take .ensures .0 ∙ ap (takenAnswer (board k)) told), k .take .ensures .1 ∙ ap (takenFlat (board k)) told)
 
 pub trivsome-board-take-numbers-spec : {M : Type 1} → statement M
 trivsome-board-take-numbers-spec =
     tie.close
     (tie.spec
-    whole-quote-requires
+    quote-of-requires
     take-requires
     answer-outcome-requires
     same-length

@@ -23,7 +23,7 @@ returns : tie.Need-returns
 returns c =
     let w = c .before .before .before .write .ensures in
     let q = c .before .before .before .before .before .quote-of .ensures in
-    let buf = c .before .before .before .before .before .before .before .before .before .args .buf .now in (
+    let buf = c .before .before .before .before .before .before .before .args .buf .now in (
       c .of-written .ensures ∙ ap writeOutcome (w .0 ∙ same-answer sixCodec buf q),
       w .1 ∙ same-bytes sixCodec buf q,
     )

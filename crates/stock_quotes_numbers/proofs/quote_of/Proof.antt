@@ -60,22 +60,22 @@ from-byte-requires c κs = search needs
 returns : tie.Need-returns
 returns c =
     let y = c .before in
-    let k = y .before in
-    let k0 = k .before in
-    let k1 = k0 .before in
-    let k2 = k1 .before in
-    let k3 = k2 .before in
-    let k4 = k3 .before in
-    let k5 = k4 .before in
-    let k6 = k5 .before in
-    let k7 = k6 .before in
-    let k8 = k7 .before in
-    let k9 = k8 .before in
-    let k10 = k9 .before in
-    let k11 = k10 .before in
-    let k12 = k11 .before in
-    let k13 = k12 .before in
-    let k14 = k13 .before in
+    let k = y .before .before in
+    let k0 = k .before .before in
+    let k1 = k0 .before .before in
+    let k2 = k1 .before .before in
+    let k3 = k2 .before .before in
+    let k4 = k3 .before .before in
+    let k5 = k4 .before .before in
+    let k6 = k5 .before .before in
+    let k7 = k6 .before .before in
+    let k8 = k7 .before .before in
+    let k9 = k8 .before .before in
+    let k10 = k9 .before .before in
+    let k11 = k10 .before .before in
+    let k12 = k11 .before .before in
+    let k13 = k12 .before .before in
+    let k14 = k13 .before .before in
     simp (
       c .from-byte .ensures,
       y .byte-at4 .ensures,

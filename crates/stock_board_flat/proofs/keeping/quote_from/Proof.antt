@@ -1,6 +1,6 @@
 -- `keeping::quote_from` meets its contract.
 use Prim.Native.Nat.{ℕ}
-use mathlib.Core.Path.{ap₂, _∙_}
+use mathlib.Core.Path.{ap, ap₂, _∙_}
 use mathlib.Core.List.{List}
 use Rattle.stock_quotes_numbers.specs.Numbers.{quoteFrom}
 use borrow.Author.Needs.{needs}
@@ -28,17 +28,20 @@ shared-slice-read-time-of-2 c = search needs
 time-of-requires : tie.Need-time-of-requires
 time-of-requires c κs = search needs
 
-slice-aggregate-quote-of : tie.Need-slice-aggregate-quote-of
-slice-aggregate-quote-of c = search needs
+amounts-in-requires : tie.Need-amounts-in-requires
+amounts-in-requires c κs = search needs
 
 quote-of-requires : tie.Need-quote-of-requires
 quote-of-requires c κs = search needs
 
 returns : tie.Need-returns
 returns c =
-    let t = c .before .before in
+    let n = c .before .before in
+    let t = n .before .before in
     let m = t .before .before .before in
-    c .quote-of .ensures ∙ ap₂ (λ (marks : List ℕ) (time : ℕ). quoteFrom 0 marks time (m .before .before .before .args .cells .now)) (m .marks-of .ensures) (t .time-of .ensures)
+    c .quote-of .ensures
+    ∙ ap (quoteFrom 0 (m .marks-of .result) (t .time-of .result)) (n .amounts-in .ensures)
+    ∙ ap₂ (λ (marks : List ℕ) (time : ℕ). quoteFrom 0 marks time (m .before .before .before .args .cells .now)) (m .marks-of .ensures) (t .time-of .ensures)
 
 pub quote-from-spec : {M : Type 1} → statement M
 quote-from-spec =
@@ -51,6 +54,6 @@ quote-from-spec =
     shared-slice-read-time-of
     shared-slice-read-time-of-2
     time-of-requires
-    slice-aggregate-quote-of
+    amounts-in-requires
     quote-of-requires
     returns)
