@@ -67,7 +67,7 @@ quoteOf-parts seq time r limit status total ps code h =
     of-six (λ l. quoteOf seq (l ++ (time ∷ r ∷ limit ∷ status ∷ total ∷ flat ps)) ≡ quoteWith seq l time r limit status total ps)
     (λ a b c d e f. ap (quoteWith seq (a ∷ b ∷ c ∷ d ∷ e ∷ f ∷ []) time r limit status total) (pairsOf-flat ps)) code h
 
-reveal-parts : (time r : ℕ) (vs code : List ℕ) → length code ≡ 6 → revealOf (code ++ (time ∷ r ∷ vs)) ≡ r
+pub reveal-parts : (time r : ℕ) (vs code : List ℕ) → length code ≡ 6 → revealOf (code ++ (time ∷ r ∷ vs)) ≡ r
 reveal-parts time r vs code h = of-six (λ l. revealOf (l ++ (time ∷ r ∷ vs)) ≡ r) (λ a b c d e f. refl) code h
 
 -- ---- a quote's numbers give the quote

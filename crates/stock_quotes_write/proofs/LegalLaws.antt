@@ -25,7 +25,7 @@ use Rattle.stock_quotes.specs.Quotes.{pairCells, sixCells, codeOf, timeOf, reve
 use Rattle.stock_quotes.proofs.RevealLaws.{bids-few, asks-few}
 use Rattle.stock_quotes.proofs.TimeLaws.{timed-small}
 use Rattle.stock_quotes.proofs.PairLaws.{size-six, length-trade}
-use Rattle.stock_quotes.proofs.QuoteLaws.{of-six}
+use Rattle.stock_quotes.proofs.QuoteLaws.{reveal-parts}
 use Rattle.stock_quotes_write.specs.Steps.{pairRight, partRight, pairTests, pairsRight}
 use Rattle.stock_quotes_write.proofs.PartLaws.{part-right, part-one, fits-append}
 
@@ -95,7 +95,7 @@ module _ (m : Quote) (shaped : ShapedQuote m) where
   time-told = getD-at (m .code) (m .time) (m .reveal ∷ rest) 0 6 (shaped .code-long)
 
   reveal-told : revealOf (quoteValues m) ≡ m .reveal
-  reveal-told = of-six (λ l. revealOf (l ++ (m .time ∷ m .reveal ∷ rest)) ≡ m .reveal) (λ a b c d e f. refl) (m .code) (shaped .code-long)
+  reveal-told = reveal-parts (m .time) (m .reveal) rest (m .code) (shaped .code-long)
 
   levels-told : sixLevels (quoteValues m) ≡ levelsRight r
   levels-told = ap (λ (x : ℕ). levelsRight (revealed x)) reveal-told
