@@ -1,2 +1,3 @@
 pub mod Reveal
 pub mod Quotes
+pub mod Before
