@@ -30,8 +30,8 @@ use Rattle.stock_board_flat.proofs.CodeLaws.{code-small}
 use Rattle.stock_board_flat.proofs.WholeLaws.{whole-long}
 use Rattle.stock_board_flat.proofs.RowLaws.{length-rows}
 use Rattle.stock_board_flat.proofs.TakeLaws.{code-is-right, stored-out}
-use Rattle.laws_board.specs.History.{after, answerTo}
-use Rattle.laws_board.specs.Kept.{Held, AllHeld, afterFlat}
+use Rattle.laws_board.specs.History.{AllOf, after, answerTo}
+use Rattle.laws_board.specs.Kept.{Held, afterFlat}
 use Rattle.laws_board.proofs.RowBack.{SideFits, Storable, row-back}
 
 -- ---- numbers put into a list from a place on
@@ -215,6 +215,6 @@ module _ (m : Quote) (ms : List Quote) (held : Held m) (K : Keeps ms) where
   pub flat-answers : takenAnswer f m ≡ answerTo ms m
   flat-answers = ap (λ (c : Change). c .answer) change-is
 
-pub flat-series : (ms : List Quote) → AllHeld ms → Keeps ms
+pub flat-series : (ms : List Quote) → AllOf Held ms → Keeps ms
 flat-series [] h = clear-keeps
 flat-series (m ∷ ms) h = keeps-next m ms (h .0) (flat-series ms (h .1))

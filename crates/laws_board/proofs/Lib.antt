@@ -5,5 +5,6 @@ pub mod Series
 pub mod Told
 pub mod RowBack
 pub mod KeptSeries
+pub mod HeldLaws
 pub mod LineBoards
 pub mod OwnLaws

@@ -24,6 +24,11 @@ Code = List ℕ
 unfoldable pub counts : Quote → Bool
 counts m = legal sixCodec m && not (lastOfDay m)
 
+-- something holds of every message of a list
+abbrev pub AllOf : (Quote → Type 0) → List Quote → Type 0
+AllOf P [] = Unit {0}
+AllOf P (m ∷ ms) = P m × AllOf P ms
+
 -- a code is one of some
 abbrev pub among : Code → List Code → Bool
 among code [] = false

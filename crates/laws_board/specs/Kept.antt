@@ -1,6 +1,7 @@
--- The board that is kept as lists of numbers: a series of messages as memory holds them.
+-- The board that is kept as lists of numbers: messages and lines as memory holds them.
 use Prim.Native.Nat.{ℕ, _<_}
 use mathlib.Core.List.{List, [], _∷_}
+use lib.ListN.{getD}
 use Rattle.stock_quotes.specs.Quotes.{ShapedQuote}
 use Rattle.stock_quotes.specs.declared.Quote.{Quote}
 use Rattle.stock_board_flat.specs.Flat.{Flat}
@@ -12,10 +13,9 @@ pub record Held (m : Quote) : Type 0 where
   pub limit-byte : m .limit < 256
   pub status-byte : m .status < 256
 
--- so are all of a series
-abbrev pub AllHeld : List Quote → Type 0
-AllHeld [] = Unit {0}
-AllHeld (m ∷ ms) = Held m × AllHeld ms
+-- a line as memory holds it: every byte of it is below 256
+abbrev pub Bytes : List ℕ → Type 0
+Bytes line = (i : ℕ) → getD line i 0 < 256
 
 -- the lists that a series of calls leaves, the latest message first
 abbrev pub afterFlat : List Quote → Flat

@@ -10,7 +10,9 @@ use Rattle.stock_quotes.specs.declared.Quote.{Quote}
 use Rattle.stock_lines.specs.Lines.{Message, none, notice, quote, prices, halt, Saying, sayings}
 use Rattle.stock_board.specs.Board.{changeOf, changed, clearBoard}
 use Rattle.stock_board.specs.declared.Row.{Row}
-use Rattle.laws_board.specs.History.{boardOf}
+use Rattle.stock_board_flat.specs.Flat.{rowsOf}
+use Rattle.laws_board.specs.History.{AllOf, boardOf}
+use Rattle.laws_board.specs.Kept.{Held, Bytes, afterFlat}
 
 -- the board behind a move: a quote is taken; noise, a refused frame and a frame of another format change no row
 abbrev pub movedBy : List Row → Message → List Row
@@ -41,13 +43,11 @@ quotesIn (v ∷ vs) ms = quotesIn vs (withMessage (v .said .message) ms)
 abbrev pub quotesOf : Bool → List ℕ → List Quote
 quotesOf closed line = quotesIn (walk sayings closed line) []
 
--- every message of a list could be written
-abbrev pub AllLegal : List Quote → Type 0
-AllLegal [] = Unit {0}
-AllLegal (m ∷ ms) = (legal sixCodec m ≡ true) × AllLegal ms
-
 pub record LineBoard (closed : Bool) (line : List ℕ) : Type 0 where
   -- the board over a line holds what each stock's own quotes say, among those that the walk accepts
   pub board : boardOver clearBoard (walk sayings closed line) ≡ boardOf (quotesOf closed line)
   -- each of them could be written, so that none is answered 14
-  pub legal-all : AllLegal (quotesOf closed line)
+  pub legal-all : AllOf (λ m. legal sixCodec m ≡ true) (quotesOf closed line)
+  -- and of a line of bytes each is as memory holds it, so that the lists of numbers keep the same rows
+  pub held-all : Bytes line → AllOf Held (quotesOf closed line)
+  pub kept : Bytes line → rowsOf (afterFlat (quotesOf closed line)) ≡ boardOver clearBoard (walk sayings closed line)
