@@ -1,7 +1,26 @@
-// Prints the quotes of a file: code, number, trade, best bid and best ask, each as price x quantity; 0.0000 x 0 is none. In place of
-// bid and ask it says that the levels are not shown where only the trade is sent.
+// Prints the quotes of a file: code, number, trade, best bid and best ask, each as price x quantity or none. In place of bid and ask
+// it says that the levels are not shown where only the trade is sent.
 #include <stdio.h>
 #include "trivsome.h"
+
+static void print_pair(const char *name, bool there, trivsome_pair pair)
+{
+    if (there) printf(" %s %.4f x %u", name, pair.price / 1e4, pair.quantity);
+    else printf(" %s none", name);
+}
+
+static void print_quote(const trivsome_quote *quote)
+{
+    printf("%.6s %u", (const char *)quote->code, quote->seq);
+    print_pair("trade", trivsome_has_trade(quote), quote->trade);
+    if (quote->levels == TRIVSOME_LEVELS_NOT_SHOWN) {
+        puts(" levels not shown");
+        return;
+    }
+    print_pair("bid", trivsome_bids(quote) != 0, quote->bids[0]);
+    print_pair("ask", trivsome_asks(quote) != 0, quote->asks[0]);
+    putchar('\n');
+}
 
 int main(int argc, char **argv)
 {
@@ -14,11 +33,8 @@ int main(int argc, char **argv)
         memmove(line, line + at, held -= at);
         held += got = fread(line + held, 1, sizeof line - held, file);
         for (at = 0; (past = trivsome_length(trivsome_move(line, held, at, got == 0))) != 0; at += past) {
-            trivsome_quote q;
-            if (!trivsome_is_quote(trivsome_read_quote(line, held, at, &q))) continue;
-            printf("%.6s %u trade %.4f x %u", (char *)q.code, q.seq, q.trade.price / 1e4, q.trade.quantity);
-            if (q.levels == TRIVSOME_LEVELS_NOT_SHOWN) puts(" levels not shown");
-            else printf(" bid %.4f x %u ask %.4f x %u\n", q.bids[0].price / 1e4, q.bids[0].quantity, q.asks[0].price / 1e4, q.asks[0].quantity);
+            trivsome_quote quote;
+            if (trivsome_is_quote(trivsome_read_quote(line, held, at, &quote))) print_quote(&quote);
         }
     } while (got != 0);
     return ferror(file) || fflush(stdout) != 0 ? perror(argv[1]), 1 : 0;

@@ -26,13 +26,12 @@ def shown(price, quantity):
     return f"{price // 10000}.{price % 10000:04} x {quantity}"
 
 
-def best(pairs, none):
-    """The first pair, or what stands for none."""
-    return shown(*pairs[0]) if pairs else none
+def best(pairs):
+    return shown(*pairs[0]) if pairs else "none"
 
 
-def named(trade, bids, asks, none):
-    return f"trade {best(trade, none)} bid {best(bids, none)} ask {best(asks, none)}\n"
+def named(trade, bids, asks):
+    return f"trade {best(trade)} bid {best(bids)} ask {best(asks)}\n"
 
 
 def accepted(line):
@@ -46,10 +45,7 @@ def shows_levels(message):
 
 
 def quoted(m):
-    zeros = shown(0, 0)
-    if shows_levels(m):
-        return named(m["trade"], m["bids"], m["asks"], zeros)
-    return f"trade {best(m['trade'], zeros)} levels not shown\n"
+    return named(m["trade"], m["bids"], m["asks"]) if shows_levels(m) else f"trade {best(m['trade'])} levels not shown\n"
 
 
 def quotes(line):
@@ -67,7 +63,7 @@ def board(line):
             if shows_levels(m):
                 bids, asks = m["bids"], m["asks"]
             rows[code] = m["trade"] or trade, bids, asks
-    return "".join(f"{code.decode('ascii')} " + named(*row, "none") for code, row in rows.items())
+    return "".join(f"{code.decode('ascii')} " + named(*row) for code, row in rows.items())
 
 
 def many():
