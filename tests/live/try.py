@@ -72,10 +72,10 @@ def pieces():
     yield sample[612:670]  # a damaged quote but for its last byte
     yield sample[670:700]  # that, a halt, and the beginning of a quote
     yield sample[700:]
-    yield frames.frame("06", frames.quote(), "00000009", version="03")  # refused
-    yield frames.frame("06", frames.quote(0x81, code=b"0050  "), "00000009")  # the trade alone; the row keeps its sides
+    yield frames.frame("06", frames.quote(), "00000010", version="03")  # refused
+    yield frames.frame("06", frames.quote(0x81, code=b"0050  "), "00000010")  # the trade alone; the row keeps its sides
     yield frames.frame("05", frames.notice("00", b"alone"), "00000003")
-    yield b"".join(frames.frame("06", frames.quote(0xDA), f"{n:08}") for n in range(10, 1010))  # 131,000 bytes
+    yield b"".join(frames.frame("06", frames.quote(0xDA), f"{n:08}") for n in range(11, 1011))  # 131,000 bytes
     yield b"~" * 3000 + frames.frame("19", frames.halt(), "00000003")
     yield b"~~" + frames.NOTICE[:-1]  # cut when the line ends
 
@@ -154,7 +154,7 @@ def main():
             continue
         stays_open(name)
         for given in (hung_up, broken_off):
-            for data in (LINE[:36], LINE[:555], LINE[:889]):
+            for data in (LINE[:36], LINE[:555], LINE[:930]):
                 read_fails(name, given, data)
     return faults.status()
 

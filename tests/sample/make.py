@@ -1,7 +1,8 @@
 #!/usr/bin/env python3
 """Makes samples/capture, a few seconds of a line for the first look: notices, one of them in Big5, quotes, a halt that is lifted,
-opening prices, noise between them, a quote whose check byte was damaged on the way, and numbers that never arrived. One code
-begins with a zero, which a reader that takes codes for numbers loses.
+opening prices, noise between them, a quote whose check byte was damaged on the way, a trade sent alone, beside which the stock's
+levels stay what they were, and numbers that never arrived. One code begins with a zero, which a reader that takes codes for numbers
+loses.
 
 make.py           writes the file
 make.py --check   compares instead, and exits 1 on a difference
@@ -38,6 +39,7 @@ def the_line():
     yield frame("06", quote(0x80, book(430000, True, (0, 0)), code=b"1101  ", time="090005314159"), "00000007")
     yield frame("05", notice("00", BIG5.encode("big5")), "00000002")
     yield frame("06", quote(0x92, book(1325000, True, (1, 1)), code=b"0050  ", time="090006000000"), "00000008")
+    yield frame("06", quote(0x81, book(1330000, True, (0, 0)), code=b"0050  ", time="090006250000"), "00000009")
 
 
 def main():
