@@ -17,8 +17,8 @@ static void print_quote(const trivsome_quote *quote)
         puts(" levels not shown");
         return;
     }
-    print_pair("bid", trivsome_bids(quote) != 0, quote->bids[0]);
-    print_pair("ask", trivsome_asks(quote) != 0, quote->asks[0]);
+    print_pair("bid", trivsome_bids(quote) > 0, quote->bids[0]);
+    print_pair("ask", trivsome_asks(quote) > 0, quote->asks[0]);
     putchar('\n');
 }
 

@@ -138,11 +138,11 @@ typedef struct {
     trivsome_pair asks[5]; /* the best of each side first */
 } trivsome_quote;
 
-/* Whether there is a trade, and how many levels a side lists. Where the levels are not shown both are 0, and say nothing of the
- * sides: look at levels first. */
+/* Whether there is a trade, and how many levels a side lists: 0 where the side is empty, and -1 where the levels are not shown, so
+ * that a side of which nothing is said is not taken for an empty one. */
 static inline bool trivsome_has_trade(const trivsome_quote *quote) { return quote->reveal >> 7 != 0; }
-static inline unsigned trivsome_bids(const trivsome_quote *quote) { return quote->reveal >> 4 & 7U; }
-static inline unsigned trivsome_asks(const trivsome_quote *quote) { return quote->reveal >> 1 & 7U; }
+static inline int trivsome_bids(const trivsome_quote *quote) { return quote->levels == TRIVSOME_LEVELS_SHOWN ? quote->reveal >> 4 & 7 : -1; }
+static inline int trivsome_asks(const trivsome_quote *quote) { return quote->levels == TRIVSOME_LEVELS_SHOWN ? quote->reveal >> 1 & 7 : -1; }
 
 typedef struct {
     uint8_t code[6];

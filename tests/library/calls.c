@@ -217,11 +217,11 @@ static void reading_levels(void)
     FILL(q);
     HOLDS(trivsome_read_quote(TRADE_ONLY, 41, 0, &q) == outcome(0, 6, 41, 8325) && q.levels == TRIVSOME_LEVELS_NOT_SHOWN);
     HOLDS(q.reveal == 0x81 && q.limit == 0x81 && q.status == 0 && q.total == 1558 && q.time == 94519033017);
-    HOLDS(trivsome_has_trade(&q) && q.trade.price == 335000 && trivsome_bids(&q) == 0 && trivsome_asks(&q) == 0);
+    HOLDS(trivsome_has_trade(&q) && q.trade.price == 335000 && trivsome_bids(&q) == -1 && trivsome_asks(&q) == -1);
     for (int i = 0; i < 5; i++) HOLDS(q.bids[i].price == 0 && q.bids[i].quantity == 0 && q.asks[i].price == 0 && q.asks[i].quantity == 0);
     FILL(q);
     HOLDS(trivsome_read_quote(NO_PAIR, 32, 0, &q) == outcome(0, 6, 32, 8325) && q.levels == TRIVSOME_LEVELS_NOT_SHOWN);
-    HOLDS(q.reveal == 0x01 && !trivsome_has_trade(&q) && trivsome_bids(&q) == 0 && trivsome_asks(&q) == 0 && q.trade.price == 0);
+    HOLDS(q.reveal == 0x01 && !trivsome_has_trade(&q) && trivsome_bids(&q) == -1 && trivsome_asks(&q) == -1 && q.trade.price == 0);
 
     // every reveal byte over one pair
     for (unsigned reveal = 0; reveal < 256; reveal++) {
@@ -231,7 +231,10 @@ static void reading_levels(void)
         uint8_t levels = only_trade ? TRIVSOME_LEVELS_NOT_SHOWN : TRIVSOME_LEVELS_SHOWN;
         quote_with(line, 22, (uint8_t)reveal);
         if (answer != 0) refused(line, 41, 0, outcome(answer, 0, 41, 0));
-        else HOLDS(trivsome_read_quote(line, 41, 0, &q) == outcome(0, 6, 41, 8325) && q.reveal == reveal && q.levels == levels);
+        else {
+            HOLDS(trivsome_read_quote(line, 41, 0, &q) == outcome(0, 6, 41, 8325) && q.reveal == reveal && q.levels == levels);
+            HOLDS(trivsome_bids(&q) == (only_trade ? -1 : (int)bids) && trivsome_asks(&q) == (only_trade ? -1 : (int)asks));
+        }
     }
     // 10 before 11 and 12: a level beside bit 0, and a bad digit in the total, or an hour of 24
     quote_with(line, 22, 0x11), line[27] ^= 0x0F, line[38] ^= 0x0F;
