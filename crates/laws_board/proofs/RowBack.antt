@@ -1,26 +1,28 @@
 -- A row put into the lists is the row that they tell, and no other row changes.
 use Prim.Native.Nat.{ℕ, zero, suc, _+_, _*_, _/_, _%_, _≤_, _<_}
-use mathlib.Core.Path.{_≡_, refl, ap, ap₂, _∙_}
+use mathlib.Core.Path.{_≡_, refl, sym, ap, ap₂, _∙_, subst}
 use mathlib.Core.List.{List, [], _∷_, _++_}
 use native.Mathlib.Omega.{arith}
 use native.Mathlib.Nat.{mod-add-div}
 use lib.ListN.{length, getD, take, drop}
+use lib.Seq.{getD-append-add}
 use borrow.Author.Tests.{eq-eqb, ne-eqb}
 use Rattle.amounts.specs.declared.Pair.{Pair}
 use Rattle.words.specs.Words.{bytes}
 use Rattle.stock_quotes.specs.Reveal.{levelsOf}
 use Rattle.stock_quotes.specs.declared.Levels.{Levels}
 use Rattle.stock_quotes.specs.declared.Levels.the-variants.{Shown}
+use Rattle.stock_quotes.specs.Quotes.{ShapedQuote}
 use Rattle.stock_quotes.specs.declared.Quote.{Quote}
 use Rattle.stock_quotes.proofs.QuoteLaws.{of-six}
-use Rattle.stock_quotes_numbers.specs.Numbers.{quoteFrom}
-use Rattle.stock_quotes_numbers.proofs.NumberLaws.{of-five}
+use Rattle.stock_quotes_numbers.specs.Numbers.{quoteBytes, quoteAmounts, quoteFrom}
+use Rattle.stock_quotes_numbers.proofs.NumberLaws.{length-amounts, quote-before}
 use Rattle.stock_board.specs.Rows.{freeRow, side, lastTrade, rowAfter}
 use Rattle.stock_board.specs.declared.LastTrade.{LastTrade}
 use Rattle.stock_board.specs.declared.LastTrade.the-variants.{NoneYet, At}
 use Rattle.stock_board.specs.declared.Side.{Side}
 use Rattle.stock_board.specs.declared.Row.{Row}
-use Rattle.stock_board_flat.specs.Flat.{numberOf, headOf, marksOf, pairOf, tradeBit, shownOf, keptOf, half, cellsOf, quoteIn, rowFrom}
+use Rattle.stock_board_flat.specs.Flat.{numberOf, headOf, marksOf, pairOf, tradeBit, shownOf, keptOf, half, cellsOf, shownIn, timeIn, quoteIn, rowFrom}
 
 -- ---- a side, and a row, that can be kept whole
 pub record SideFits (s : Side) : Type 0 where
@@ -62,47 +64,29 @@ marks-back code limit status shown n =
     each a b c d e f h l s (suc (suc (suc (suc (suc (suc (suc (suc i)))))))) = omega arith
 
 -- ---- the quote that is kept of a row is the one that its numbers tell
-module _ (q : Quote) (small : q .reveal < 256) (even : q .reveal % 2 ≡ 0) (limits : q .limit < 256) (states : q .status < 256) where
-  abbrev with : List ℕ → Levels → List Pair → List Pair → Quote
-  with code levels bids asks = record {
-    seq = 0;
-    code = code;
-    time = q .time;
-    reveal = q .reveal;
-    limit = q .limit;
-    status = q .status;
-    total = q .total;
-    trade = q .trade;
-    levels = levels;
-    bids = bids;
-    asks = asks;
-  }
+module _ (q : Quote) (s : ShapedQuote q) where
+  abbrev head : ℕ
+  head = headOf (q .code) (q .limit) (q .status)
 
-  shows : levelsOf (q .reveal) ≡ Shown
-  shows = rw (eq-eqb (q .reveal % 2) 0 even)
+  abbrev behind : List ℕ
+  behind = q .reveal ∷ q .time % half ∷ q .time / half ∷ []
 
-  quote-back : (code : List ℕ) (bids asks : List Pair) → length code ≡ 6 → ((i : ℕ) → getD code i 0 < 256) → length bids ≡ 5 → length asks ≡ 5
-      → quoteIn (headOf code (q .limit) (q .status)) (cellsOf (with code Shown bids asks)) ≡ with code Shown bids asks
-  quote-back code bids asks n h b a =
-      let P : List ℕ → List Pair → List Pair → Type 0 = λ c bs cs. quoteIn (headOf c (q .limit) (q .status)) (cellsOf (with c Shown bs cs)) ≡ with c Shown bs cs in
-      of-five (λ bs. P code bs asks)
-      (λ b1 b2 b3 b4 b5. let bs : List Pair = b1 ∷ b2 ∷ b3 ∷ b4 ∷ b5 ∷ [] in
-      of-five (λ cs. P code bs cs) (λ a1 a2 a3 a4 a5. told b1 b2 b3 b4 b5 a1 a2 a3 a4 a5) asks a) bids b
-    where
-      told : (b1 b2 b3 b4 b5 a1 a2 a3 a4 a5 : Pair)
-          → let w = with code Shown (b1 ∷ b2 ∷ b3 ∷ b4 ∷ b5 ∷ []) (a1 ∷ a2 ∷ a3 ∷ a4 ∷ a5 ∷ []) in quoteIn (headOf code (q .limit) (q .status)) (cellsOf w) ≡ w
-      told b1 b2 b3 b4 b5 a1 a2 a3 a4 a5 =
-          let bs : List Pair = b1 ∷ b2 ∷ b3 ∷ b4 ∷ b5 ∷ [] in
-          let cs : List Pair = a1 ∷ a2 ∷ a3 ∷ a4 ∷ a5 ∷ [] in
-          let w = with code Shown bs cs in
-          let time : q .time % half + half * (q .time / half) ≡ q .time = mod-add-div (q .time) half in
-          let whole : q .reveal % 256 / 2 * 2 ≡ q .reveal = omega (arith, small, even) in
-          let marks : marksOf (headOf code (q .limit) (q .status)) (q .reveal % 256 / 2 * 2) ≡ code ++ (q .reveal ∷ q .limit ∷ q .status ∷ []) =
-          ap (marksOf (headOf code (q .limit) (q .status))) whole ∙ marks-back code (q .limit) (q .status) (q .reveal) n h limits states in
-          ap₂ (λ (ms : List ℕ) (t : ℕ). quoteFrom 0 ms t (cellsOf w)) marks time
-          ∙ of-six (λ c. quoteFrom 0 (c ++ (q .reveal ∷ q .limit ∷ q .status ∷ [])) (q .time) (cellsOf w) ≡ with c (levelsOf (q .reveal)) bs cs)
-          (λ c1 c2 c3 c4 c5 c6. refl) code n
-          ∙ ap (λ (l : Levels). with code l bs cs) shows
+  -- the cells behind a quote's amounts
+  cell : (i : ℕ) → getD (cellsOf q) (23 + i) 0 ≡ getD behind i 0
+  cell i = subst (λ (n : ℕ). getD (cellsOf q) (n + i) 0 ≡ getD behind i 0) (length-amounts q s) (getD-append-add (quoteAmounts q) behind i 0)
+
+  time-told : timeIn (cellsOf q) ≡ q .time
+  time-told = ap₂ (λ (low high : ℕ). low + half * high) (cell 1) (cell 2) ∙ mod-add-div (q .time) half
+
+  kept-told : q .seq ≡ 0 → ((i : ℕ) → getD (q .code) i 0 < 256) → q .limit < 256 → q .status < 256 → q .reveal < 256 → q .reveal % 2 ≡ 0 → q .levels ≡ Shown → quoteIn head (cellsOf q) ≡ q
+  kept-told none codes limits states small even shown =
+      let whole : q .reveal % 256 / 2 * 2 ≡ q .reveal = omega (arith, small, even) in
+      let marks : marksOf head (shownIn (cellsOf q)) ≡ quoteBytes q =
+      ap (λ (x : ℕ). marksOf head (x % 256 / 2 * 2)) (cell 0) ∙ ap (marksOf head) whole ∙ marks-back (q .code) (q .limit) (q .status) (q .reveal) (s .code-long) codes limits states in
+      let said : levelsOf (q .reveal) ≡ Shown = rw (eq-eqb (q .reveal % 2) 0 even) in
+      ap₂ (λ (ms : List ℕ) (t : ℕ). quoteFrom 0 ms t (cellsOf q)) marks time-told
+      ∙ ap (λ (n : ℕ). quoteFrom n (quoteBytes q) (q .time) (cellsOf q)) (sym none)
+      ∙ quote-before q s behind (said ∙ sym shown)
 
 -- ---- and the row that the quote leaves of a free one is the row
 trade-back : (t : LastTrade) (low : ℕ) → low < 128 → lastTrade NoneYet (pairOf t) (128 * tradeBit t + low) ≡ t
@@ -142,5 +126,5 @@ unfolding keptOf
 row-back row s =
     let few : shownOf row < 256 = omega (arith, bit-small (row .trade)) in
     let even : shownOf row % 2 ≡ 0 = omega arith in
-    ap (rowAfter freeRow) (quote-back (keptOf row) few even (s .limit-byte) (s .status-byte) (row .code) (row .bids .levels) (row .asks .levels) (s .code-long) (s .code-bytes) (s .bids-fit .long) (s .asks-fit .long))
-    ∙ kept-back row s
+    let shaped : ShapedQuote (keptOf row) = record { code-long = s .code-long; bids-long = s .bids-fit .long; asks-long = s .asks-fit .long } in
+    ap (rowAfter freeRow) (kept-told (keptOf row) shaped refl (s .code-bytes) (s .limit-byte) (s .status-byte) few even refl) ∙ kept-back row s
