@@ -9,15 +9,11 @@ use lib.Seq.{take-at, drop-at, getD-drop, drop-drop}
 use lib.Dec.{eqb}
 use borrow.Author.Tests.{le-leb}
 use Rattle.amounts.specs.Amounts.{asPrice, asQuantity}
-use Rattle.amounts.specs.declared.Pair.{Pair}
 use Rattle.digits.proofs.Bools.{and-right, no-false}
 use Rattle.codes_times.specs.Times.{nines, codeAt}
 use Rattle.stock_notices.specs.Notices.{room, tidyNotice, ShapedNotice}
 use Rattle.stock_notices.specs.declared.Notice.{Notice}
 use Rattle.stock_notices.proofs.NoticeLaws.{from-parts}
-use Rattle.stock_quotes.specs.Quotes.{ShapedQuote}
-use Rattle.stock_quotes.specs.declared.Quote.{Quote}
-use Rattle.stock_quotes.proofs.QuoteLaws.{of-six}
 use Rattle.stock_halts.specs.Halts.{resumeOf, resumeNumber, sendingOf, sendingByte, sameResume, tidyEvent}
 use Rattle.stock_halts.specs.declared.Resume.{Resume}
 use Rattle.stock_halts.specs.declared.Resume.the-variants.{Open, At}

@@ -1,15 +1,13 @@
 -- Codes compared byte for byte: what is the same is equal; a code among others, and its place.
-use Prim.Native.Nat.{ℕ, suc, _+_, _≤_, _<_}
+use Prim.Native.Nat.{ℕ, suc, _+_}
 use mathlib.Core.Path.{_≡_, refl, sym, ap, ap₂, _∙_}
-use mathlib.Core.Bool.{Bool, true, false, cond, not, _&&_, _||_}
-use mathlib.Core.List.{List, [], _∷_, _++_, map}
-use native.Mathlib.Omega.{arith}
-use lib.ListN.{length, getD, set, replicate}
+use mathlib.Core.Bool.{Bool, true, false, cond, _&&_, _||_}
+use mathlib.Core.List.{List, [], _∷_, _++_}
 use lib.Dec.{eqb}
-use borrow.Author.Tests.{eqb-true, eqb-false, eq-eqb}
+use borrow.Author.Tests.{eqb-true, eq-eqb}
 use Rattle.digits.proofs.Bools.{and-left, and-right, no-false}
-use Rattle.stock_board.specs.Rows.{freeCode, freeRow}
-use Rattle.stock_board.specs.Board.{sameCode, hasCode, isFree, placeOf, freePlace}
+use Rattle.stock_board.specs.Rows.{freeCode}
+use Rattle.stock_board.specs.Board.{sameCode}
 use Rattle.stock_board.specs.declared.Row.{Row}
 use Rattle.laws_board.specs.History.{Code, among}
 

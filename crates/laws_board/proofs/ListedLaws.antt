@@ -1,16 +1,16 @@
 -- The rows of listed stocks with free rows behind them: where a code's row and the first free one stand, and one of them changed.
-use Prim.Native.Nat.{ℕ, zero, suc, _+_, _≤_, _<_}
+use Prim.Native.Nat.{ℕ, zero, suc, _+_, _<_}
 use mathlib.Core.Path.{_≡_, refl, sym, ap, ap₂, _∙_}
-use mathlib.Core.Bool.{Bool, true, false, cond, _&&_, _||_}
+use mathlib.Core.Bool.{Bool, true, false, cond, _||_}
 use mathlib.Core.List.{List, [], _∷_, _++_, map}
 use native.Mathlib.Omega.{arith}
 use lib.ListN.{length, getD, set, replicate}
 use Rattle.digits.proofs.Bools.{no-false}
 use Rattle.stock_board.specs.Rows.{freeCode, freeRow}
-use Rattle.stock_board.specs.Board.{sameCode, hasCode, isFree, placeOf, freePlace, usedRows}
+use Rattle.stock_board.specs.Board.{sameCode, placeOf, freePlace, usedRows}
 use Rattle.stock_board.specs.declared.Row.{Row}
 use Rattle.laws_board.specs.History.{Code, among}
-use Rattle.laws_board.proofs.CodeLaws.{same-refl, same-eq, same-sym, or-left, or-right, placeIn, Distinct, Coded, Stocks}
+use Rattle.laws_board.proofs.CodeLaws.{same-eq, same-sym, or-left, or-right, placeIn, Distinct, Coded, Stocks}
 
 -- the rows, and k free ones
 abbrev pub rows : (Code → Row) → List Code → ℕ → List Row

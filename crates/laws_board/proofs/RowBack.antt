@@ -7,10 +7,8 @@ use native.Mathlib.Nat.{mod-add-div}
 use lib.ListN.{length, getD, take, drop}
 use lib.Seq.{getD-append-add}
 use borrow.Author.Tests.{eq-eqb, ne-eqb}
-use Rattle.amounts.specs.declared.Pair.{Pair}
 use Rattle.words.specs.Words.{bytes}
 use Rattle.stock_quotes.specs.Reveal.{levelsOf}
-use Rattle.stock_quotes.specs.declared.Levels.{Levels}
 use Rattle.stock_quotes.specs.declared.Levels.the-variants.{Shown}
 use Rattle.stock_quotes.specs.Quotes.{ShapedQuote}
 use Rattle.stock_quotes.specs.declared.Quote.{Quote}

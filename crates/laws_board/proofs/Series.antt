@@ -7,16 +7,16 @@ use mathlib.Core.List.{List, [], _∷_, _++_, map}
 use native.Mathlib.Omega.{arith}
 use lib.ListN.{length, getD, set, take, replicate, length-append, length-map, length-replicate}
 use lib.Seq.{set-out}
-use lib.Dec.{eqb, leb, ltb}
+use lib.Dec.{leb, ltb}
 use borrow.Author.Tests.{ltb-true, ltb-false, leb-true, lt-ltb, le-ltb, ne-eqb}
 use Rattle.digits.proofs.Bools.{and-left, and-right, no-false}
 use Rattle.codes_times.specs.Times.{codeByte, codeRight, every}
 use Rattle.stock_frame.specs.Codec.{legal}
 use Rattle.stock_frame.proofs.CodecLaws.{legal-ruled}
-use Rattle.stock_quotes.specs.Quotes.{sixRuled, quoteValues, sixCodec}
+use Rattle.stock_quotes.specs.Quotes.{sixCodec}
 use Rattle.stock_quotes.specs.declared.Quote.{Quote}
 use Rattle.stock_board.specs.Rows.{freeCode, freeRow, rowAfter}
-use Rattle.stock_board.specs.Board.{rowCount, sameCode, placeOf, freePlace, lastOfDay, unchanged, changeOf, changed, clearBoard}
+use Rattle.stock_board.specs.Board.{sameCode, placeOf, freePlace, lastOfDay, unchanged, changeOf, changed}
 use Rattle.stock_board.specs.declared.Row.{Row}
 use Rattle.stock_board.specs.declared.Change.{Change}
 use Rattle.stock_board.specs.declared.BoardAnswer.{BoardAnswer}

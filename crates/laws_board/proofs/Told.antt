@@ -1,6 +1,6 @@
 -- The promise over histories: after any series of messages from a clear board, what each call tells.
 use Prim.Native.Nat.{ℕ, zero, suc, _+_, _-_, _≤_, _<_}
-use mathlib.Core.Path.{_≡_, refl, sym, ap, ap₂, _∙_}
+use mathlib.Core.Path.{_≡_, refl, ap, _∙_}
 use mathlib.Core.Bool.{Bool, true, false, cond, not, _&&_}
 use mathlib.Core.List.{List, [], _∷_, _++_, map}
 use native.Mathlib.Omega.{arith}
@@ -11,12 +11,11 @@ use Rattle.digits.proofs.Bools.{and-left}
 use Rattle.codes_times.specs.Times.{codeRight, zeroCode}
 use Rattle.stock_quotes.specs.declared.Quote.{Quote}
 use Rattle.stock_board.specs.Rows.{freeCode, freeRow}
-use Rattle.stock_board.specs.Board.{sameCode, isFree, placeOf, usedRows, stockCode, askedOf, rowAtOf, inUseOf}
+use Rattle.stock_board.specs.Board.{sameCode, isFree, placeOf, stockCode, askedOf, rowAtOf, inUseOf}
 use Rattle.stock_board.specs.declared.Row.{Row}
-use Rattle.stock_board.specs.declared.Asked.{Asked}
 use Rattle.stock_board.specs.declared.InUse.{InUse}
 use Rattle.stock_board.specs.declared.BoardAnswer.the-variants.{Done}
-use Rattle.laws_board.specs.History.{Code, among, listed, said, after, found, missing, Tells}
+use Rattle.laws_board.specs.History.{Code, among, listed, said, found, missing, Tells}
 use Rattle.laws_board.proofs.CodeLaws.{placeIn, Coded, Stocks}
 use Rattle.laws_board.proofs.ListedLaws.{rows, place-mapped, place-below, get-mapped, used-mapped}
 use Rattle.laws_board.proofs.Series.{State, right-code, next, state}

@@ -1,15 +1,14 @@
 -- What each call says of a flat board, test by test.
 use Prim.Native.Nat.{ℕ, _-_, _*_, _≤_, _<_}
-use mathlib.Core.Path.{_≡_, refl, sym, ap, _∙_}
-use mathlib.Core.Bool.{Bool, true, false, cond, not, _&&_}
+use mathlib.Core.Path.{_≡_, ap, _∙_}
+use mathlib.Core.Bool.{true, false}
 use mathlib.Core.List.{List}
 use native.Mathlib.Omega.{arith}
 use lib.ListN.{length, getD, take, drop, replicate}
-use lib.Dec.{eqb, ltb}
 use borrow.Author.Tests.{eq-eqb, lt-ltb, le-ltb}
 use Rattle.codes_times.specs.Times.{codeRight, zeroCode}
 use Rattle.stock_board.specs.Rows.{freeRow}
-use Rattle.stock_board.specs.Board.{placeOf, isFree, usedRows, stockCode, askedOf, rowAtOf, inUseOf}
+use Rattle.stock_board.specs.Board.{placeOf, isFree, usedRows, askedOf, rowAtOf}
 use Rattle.stock_board.specs.declared.Asked.{Asked}
 use Rattle.stock_board.specs.declared.BoardAnswer.the-variants.{Done, Refused}
 use Rattle.stock_board.specs.declared.InUse.{InUse}

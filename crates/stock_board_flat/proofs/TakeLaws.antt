@@ -4,7 +4,7 @@ use mathlib.Core.Path.{_≡_, refl, sym, ap, _∙_}
 use mathlib.Core.Bool.{Bool, true, false, cond, _&&_}
 use mathlib.Core.List.{List, [], _∷_}
 use native.Mathlib.Omega.{arith}
-use lib.ListN.{length, getD, set}
+use lib.ListN.{length, getD}
 use lib.Seq.{sets, set-out}
 use lib.Dec.{eqb}
 use Rattle.digits.proofs.TestLaws.{holds}
@@ -14,7 +14,7 @@ use Rattle.stock_quotes.specs.Quotes.{sixCodec, ShapedQuote}
 use Rattle.stock_quotes.specs.declared.Quote.{Quote}
 use Rattle.stock_quotes_write.proofs.LegalLaws.{tests, tests-of}
 use Rattle.stock_board.specs.Rows.{freeRow, rowAfter}
-use Rattle.stock_board.specs.Board.{placeOf, freePlace, unchanged, changeBy, changeOf, lastOfDay}
+use Rattle.stock_board.specs.Board.{placeOf, freePlace, unchanged, changeOf, lastOfDay}
 use Rattle.stock_board.specs.declared.Row.{Row}
 use Rattle.stock_board.specs.declared.Change.{Change}
 use Rattle.stock_board.specs.declared.BoardAnswer.{BoardAnswer}

@@ -19,17 +19,16 @@ use Rattle.stock_frame.proofs.OutlineSteps.{check-first}
 use Rattle.stock_frame.proofs.PartLaws.{whole-outlined}
 use Rattle.stock_reading.specs.Reading.{answerOf}
 use Rattle.stock_reading.proofs.ReadingLaws.{answer-not}
-use Rattle.walk.specs.Walk.{Move, walkFrom}
+use Rattle.walk.specs.Walk.{Move}
 use Rattle.walk.specs.Answers.{pastOf}
 use Rattle.walk.specs.Noise.{noiseLength}
 use Rattle.walk.proofs.AnswerLaws.{past-stops, some-left, none-left, move-within, walk-turn, walk-stop}
 use Rattle.walk.proofs.NoiseLaws.{noise-ends, noise-stops, noise-goes-on}
-use Rattle.stock_lines.specs.Lines.{answers, longest, onOutline, aheadOf, nextFrame}
+use Rattle.stock_lines.specs.Lines.{longest, onOutline, aheadOf, nextFrame}
 use Rattle.stock_lines.specs.Steps.{metOutline, metOf}
 use Rattle.stock_lines.specs.declared.frames.Met.{Met}
 use Rattle.stock_lines.specs.declared.frames.Met.the-variants.{Past}
 use Rattle.stock_lines.specs.declared.frames.Met.the-variants.{Whole as MetWhole}
-use Rattle.stock_lines.specs.declared.frames.Ahead.{Ahead}
 use Rattle.stock_lines.specs.declared.frames.Ahead.the-variants.{Frame, Nothing}
 use Rattle.stock_lines.proofs.LineLaws.{sound-answers}
 use Rattle.stock_lines.proofs.FrameTheorems.{whole-past}

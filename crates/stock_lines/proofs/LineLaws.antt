@@ -18,9 +18,9 @@ use Rattle.stock_reading.specs.Reading.{answerOf}
 use Rattle.stock_reading.proofs.EdgesHold.{edges-hold}
 use Rattle.stock_reading.proofs.MoreBytes.{answer-more, message-more}
 use Rattle.stock_reading.proofs.Lengths.{whole-within, waits-short}
-use Rattle.walk.specs.Walk.{isWhole, walk}
+use Rattle.walk.specs.Walk.{isWhole}
 use Rattle.walk.specs.Sound.{Sound}
-use Rattle.stock_lines.specs.Lines.{answers, longest, messageIn, quote, prices, halt, notice, none, sayings}
+use Rattle.stock_lines.specs.Lines.{answers, longest, messageIn, quote, prices, halt, notice, sayings}
 
 -- 0 and 6 to 13 are none of 1 to 5
 not-small : (n : ℕ) → isWhole n ≡ true → 1 ≤ n → n ≤ 5 → ⊥

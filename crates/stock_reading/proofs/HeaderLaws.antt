@@ -11,7 +11,7 @@ use Rattle.digits.proofs.Bools.{and-both}
 use Rattle.digits.proofs.TestLaws.{holds}
 use Rattle.layout.specs.Checks.{Check, must, firstFail}
 use Rattle.answers.specs.Answers.{named}
-use Rattle.stock_frame.specs.Outline.{format, version, sequence}
+use Rattle.stock_frame.specs.Outline.{format, version}
 use Rattle.stock_frame.specs.Format.{Format, bodyChecks, bodyAnswer, around}
 use Rattle.answers.specs.declared.Frame.{Frame}
 use Rattle.answers.specs.declared.Answer.the-variants.{Refused}

@@ -12,13 +12,11 @@ use Rattle.walk.specs.Walk.{Reading, Move, walkFrom}
 use Rattle.walk.specs.Sound.{Sound}
 use Rattle.walk.specs.Answers.{answering, pastOf}
 use Rattle.walk.specs.Tally.{isSkipped}
-use Rattle.walk.specs.Pieces.{kept}
 use Rattle.walk.specs.Told.{noRow, joinedRow, holds, toldOf, onTold, nextOf}
 use Rattle.walk.specs.declared.rows.Kept.{Kept}
 use Rattle.walk.specs.declared.rows.Told.the-variants.{Nothing, One, Two, Full}
 use Rattle.walk.specs.declared.rows.Next.{Next}
 use Rattle.walk.specs.declared.rows.Next.the-variants.{Stopped}
-use Rattle.walk.proofs.WalkLaws.{behind}
 use Rattle.walk.proofs.AnswerLaws.{past-stops, some-left, none-left, walk-turn, walk-stop}
 
 -- what is kept stands behind the move

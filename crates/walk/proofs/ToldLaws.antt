@@ -12,7 +12,7 @@ use Rattle.answers.specs.declared.Answer.{Answer}
 use Rattle.walk.specs.Walk.{Reading, Move, isWhole}
 use Rattle.walk.specs.Answers.{answering}
 use Rattle.walk.specs.Tally.{isSkipped, largest}
-use Rattle.walk.specs.Pieces.{grown, given, kept}
+use Rattle.walk.specs.Pieces.{grown, given}
 use Rattle.walk.specs.Told.{moveOf, noRow, joinedRow, holds, toldOf}
 use Rattle.walk.specs.declared.rows.Row.{Row}
 use Rattle.walk.specs.declared.rows.Kept.{Kept}

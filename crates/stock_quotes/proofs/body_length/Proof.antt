@@ -1,5 +1,4 @@
 -- `body_length` meets its contract.
-use mathlib.Core.Path.{_∙_}
 use borrow.Author.Needs.{needs}
 use native.Mathlib.Omega.{arith}
 use Rattle.stock_quotes.proofs.RevealLaws.{pairs-lt}

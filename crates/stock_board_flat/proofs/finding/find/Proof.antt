@@ -1,7 +1,7 @@
 -- `finding::find` meets its contract. The loop's invariant: what is found from here on is what is found from the start.
 use Prim.Native.Nat.{_+_, _-_, _≤_}
 use mathlib.Core.Path.{_≡_}
-use lib.ListN.{length, take, drop}
+use lib.ListN.{length, drop}
 use native.Mathlib.Omega.{arith}
 use borrow.Author.Needs.{needs}
 use Rattle.stock_board_flat.specs.Steps.{firstOf}

@@ -3,7 +3,7 @@ use Prim.Native.Nat.{_-_, _≤_}
 use mathlib.Core.Path.{_≡_, refl, ap, _∙_}
 use native.Mathlib.Omega.{arith}
 use lib.ListN.{length, take}
-use lib.Seq.{sets, length-sets, take-all}
+use lib.Seq.{sets, take-all}
 use borrow.Author.Needs.{needs}
 use Rattle.layout.proofs.PutLaws.{put-turns}
 use Rattle.stock_board_flat.proofs.keeping.put.Statement.{statement}

@@ -1,7 +1,5 @@
 -- `reading::refused` meets its contract: 8 for another version of a format, 7 where there is none.
-use Prim.Native.Nat.{ℕ}
 use mathlib.Core.Path.{ap, _∙_}
-use mathlib.Core.List.{List}
 use Rattle.answers.specs.declared.Answer.the-variants.{Refused}
 use Rattle.stock_notices.specs.Notices.{five}
 use Rattle.stock_quotes.specs.Quotes.{six}
@@ -9,7 +7,6 @@ use Rattle.stock_prices.specs.Prices.{twelve}
 use Rattle.stock_halts.specs.Halts.{nineteen}
 use Rattle.stock_frame.proofs.FormatsLaws.{no-more, _nor_}
 use Rattle.stock_reading.proofs.HeaderLaws.{five-listed, six-listed, twelve-listed, nineteen-listed, kind-seven, kind-eight}
-use borrow.Author.Needs.{needs}
 use Rattle.stock_reading.proofs.reading.refused.Statement.{statement}
 use Rattle.stock_reading.proofs.reading.refused.Tie as tie
 
