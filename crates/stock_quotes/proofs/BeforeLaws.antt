@@ -1,7 +1,7 @@
 -- What bit 0 of the reveal byte did not change: everything, but for the byte beside a level.
 use Prim.Native.Nat.{ℕ, _+_, _%_, _^_}
 use mathlib.Core.Path.{_≡_, refl, sym, ap, _∙_}
-use mathlib.Core.Bool.{Bool, true, false, cond, _&&_}
+use mathlib.Core.Bool.{Bool, true, false, cond, _&&_, and-true, and-false}
 use mathlib.Core.List.{List, [], _∷_}
 use lib.ListN.{length, getD, drop}
 use lib.Dec.{eqb, leb, ltb}
@@ -23,15 +23,6 @@ use Rattle.stock_quotes.specs.Before.{levelsBefore, sixBefore, tidyBefor
 use Rattle.stock_quotes.proofs.RevealLaws.{of-bit}
 use Rattle.stock_quotes.proofs.QuoteLaws.{reveal-read, reveal-parts}
 
-and-true : (a : Bool) → (a && true) ≡ a
-and-true true = refl
-and-true false = refl
-
-and-false : (a b : Bool) → (a && (b && false)) ≡ false
-and-false true true = refl
-and-false true false = refl
-and-false false b = refl
-
 -- ---- check 10, by what bit 0 says of the levels that are counted
 right-before : (r : Reveal) → countRight (r .levels) (r .bids + r .asks) ≡ true → levelsRight r ≡ levelsBefore r
 unfolding levelsRight
@@ -39,7 +30,7 @@ right-before r e = ap (λ (t : Bool). leb (r .bids) sideRoom && (leb (r .asks) s
 
 right-hidden : (r : Reveal) → countRight (r .levels) (r .bids + r .asks) ≡ false → levelsRight r ≡ false
 unfolding levelsRight
-right-hidden r e = ap (λ (t : Bool). leb (r .bids) sideRoom && (leb (r .asks) sideRoom && t)) e ∙ and-false (leb (r .bids) sideRoom) (leb (r .asks) sideRoom)
+right-hidden r e = ap (λ (t : Bool). leb (r .bids) sideRoom && (leb (r .asks) sideRoom && t)) e ∙ ap (λ (t : Bool). leb (r .bids) sideRoom && t) (and-false (leb (r .asks) sideRoom)) ∙ and-false (leb (r .bids) sideRoom)
 
 clear-shown : (byte : ℕ) → byte % 2 ≡ 0 → levelsOf byte ≡ Shown
 clear-shown byte e = of-bit Shown byte (sym e)
