@@ -1,16 +1,16 @@
 -- Laws of the shared rules: a test of every byte taken byte by byte, and a time of day at any width.
 use Prim.Native.Nat.{ℕ, suc, _+_, _/_, _%_, _^_, _≤_, _<_}
-use mathlib.Core.Path.{_≡_, sym, ap, ap₂, _∙_}
+use mathlib.Core.Path.{_≡_, refl, sym, ap, ap₂, _∙_}
 use mathlib.Core.Bool.{Bool, true, false, cond, _&&_, and-false}
 use mathlib.Core.List.{List, [], _∷_}
 use native.Mathlib.Nat.{div-div-eq-div-mul}
 use native.Mathlib.Numerals.{add-one}
 use native.Mathlib.Omega.{arith}
-use lib.ListN.{length, getD, take, drop, replicate, drop-of-length-le}
-use lib.Seq.{drop-cons}
+use lib.ListN.{length, getD, take, drop, replicate, length-drop, drop-of-length-le}
+use lib.Seq.{drop-cons, length-take-le}
 use lib.Pow.{pow-add}
 use lib.Dec.{leb, ltb}
-use borrow.Author.Tests.{lt-leb, le-leb, lt-ltb, le-ltb}
+use borrow.Author.Tests.{lt-leb, le-leb, leb-true, lt-ltb, le-ltb}
 use Rattle.codes_times.specs.Times.{timeOfDay, every, codeAt, codeByte}
 
 -- the next byte and those after it
@@ -42,6 +42,14 @@ module _ (s : List ℕ) (at : ℕ) where
 
   pub code-out : length s < at + 6 → replicate 6 0 ≡ codeAt s at
   code-out h = sym (ap (λ (t : Bool). cond t (take 6 (drop at s)) (replicate 6 0)) (lt-leb (at + 6) (length s) h))
+
+  -- it has six bytes, there or not
+  pub length-code : length (codeAt s at) ≡ 6
+  length-code = go (leb (at + 6) (length s)) refl
+    where
+      go : (t : Bool) → leb (at + 6) (length s) ≡ t → length (cond t (take 6 (drop at s)) (replicate 6 0)) ≡ 6
+      go true e = length-take-le 6 (drop at s) (rw length-drop (omega (arith, leb-true (at + 6) (length s) e)))
+      go false e = refl
 
 -- ---- a test of every byte
 module _ (p : ℕ → Bool) (l : List ℕ) (i : ℕ) where

@@ -1,17 +1,19 @@
--- A quote that was read off a line of bytes is as memory holds it.
+-- A quote that was read off a line of bytes, and one that is told by bytes and numbers, is as memory holds it.
 use Prim.Native.Nat.{ℕ, zero, suc, _-_, _<_}
-use mathlib.Core.Path.{_≡_, sym, ap, _∙_, subst}
+use mathlib.Core.Path.{_≡_, refl, sym, ap, _∙_, subst}
 use mathlib.Core.List.{List, [], _∷_}
 use lib.ListN.{length, getD, take, drop}
 use lib.Seq.{getD-take, getD-drop}
 use lib.Dec.{lit<}
 use Rattle.layout.specs.Cells.{decode}
+use Rattle.codes_times.proofs.RuleLaws.{length-code}
 use Rattle.stock_frame.specs.Outline.{lengthOf, own, body}
 use Rattle.stock_frame.proofs.CodecLaws.{Reads, shaped-read}
 use Rattle.stock_quotes.specs.Reveal.{revealed, pairCount}
 use Rattle.stock_quotes.specs.Quotes.{sixCells, revealPlace, sixCodec, ShapedQuote}
 use Rattle.stock_quotes.specs.declared.Quote.{Quote}
 use Rattle.stock_quotes.proofs.QuoteLaws.{quotes-lawful}
+use Rattle.stock_quotes_numbers.specs.Numbers.{quoteFrom}
 use Rattle.laws_board.specs.Kept.{Held, Bytes}
 
 -- ---- parts of a line of bytes are such lines
@@ -48,3 +50,11 @@ read-held t h m rd = record {
 
     bytes-body : Bytes b
     bytes-body = bytes-take (length (own t) - 13) (drop 10 (own t)) (bytes-drop 10 (own t) (bytes-take (lengthOf t) t h))
+
+-- ---- so is the quote of lent bytes and numbers, of which the calls for C and Rust speak
+pub numbers-held : (seq : ℕ) (bytes : List ℕ) → Bytes bytes → (time : ℕ) (amounts : List ℕ) → Held (quoteFrom seq bytes time amounts)
+numbers-held seq bytes h time amounts = record {
+  shaped = record { code-long = length-code bytes 0; bids-long = refl; asks-long = refl };
+  limit-byte = h 7;
+  status-byte = h 8;
+}

@@ -19,20 +19,21 @@ use Rattle.stock_quotes_numbers.specs.Numbers.{pairsAt}
 use Rattle.stock_quotes_numbers.proofs.NumberLaws.{of-five}
 use Rattle.stock_board.specs.Rows.{side, freeRow, sideAfter, rowAfter}
 use Rattle.stock_board.specs.declared.BoardAnswer.the-variants.{Done, Refused}
-use Rattle.stock_board.specs.Board.{lastOfDay, unchanged, placeOf, changeBy, changeOf, changed}
+use Rattle.stock_board.specs.Board.{lastOfDay, unchanged, placeOf, changeBy, changeOf, changed, askedOf, rowAtOf, inUseOf}
 use Rattle.stock_board.specs.declared.Row.{Row}
 use Rattle.stock_board.specs.declared.Side.{Side}
 use Rattle.stock_board.specs.declared.Change.{Change}
 use Rattle.stock_board_flat.specs.Flat.{Flat, whole, headOf, keptOf, cellsOf, shownIn, rowFrom, rowsFrom, rowsOf, storedAt}
-use Rattle.stock_board_flat.specs.Calls.{changeFlat, takenAnswer, takenFlat, clearFlat}
+use Rattle.stock_board_flat.specs.Calls.{changeFlat, takenAnswer, takenFlat, clearFlat, askedFlat, rowAtFlat, inUseFlat}
 use Rattle.stock_board_flat.specs.Steps.{Whole}
 use Rattle.stock_board_flat.proofs.CodeLaws.{code-small}
 use Rattle.stock_board_flat.proofs.WholeLaws.{whole-long}
 use Rattle.stock_board_flat.proofs.RowLaws.{length-rows}
 use Rattle.stock_board_flat.proofs.TakeLaws.{code-is-right, stored-out}
 use Rattle.laws_board.specs.History.{AllOf, after, answerTo}
-use Rattle.laws_board.specs.Kept.{Held, afterFlat}
+use Rattle.laws_board.specs.Kept.{Held, afterFlat, KeptTells}
 use Rattle.laws_board.proofs.RowBack.{SideFits, Storable, row-back}
+use Rattle.laws_board.proofs.Told.{series-tells}
 
 -- ---- numbers put into a list from a place on
 take-sets : (n : ℕ) (vs l : List ℕ) (b : ℕ) → n ≤ b → take n (sets l b vs) ≡ take n l
@@ -185,13 +186,13 @@ clear-keeps : Keeps []
 unfolding clearFlat
 clear-keeps = record { all = zeros-whole 256 6656 refl refl; rows = clear-rows 256 6656 refl }
 
+change-is : (m : Quote) (ms : List Quote) → Keeps ms → changeFlat (afterFlat ms) m ≡ changeOf (after ms) m
+unfolding changeFlat
+change-is m ms K = rw (K .all) (ap (λ (l : List Row). changeOf l m) (K .rows))
+
 module _ (m : Quote) (ms : List Quote) (held : Held m) (K : Keeps ms) where
   abbrev f : Flat
   f = afterFlat ms
-
-  change-is : changeFlat f m ≡ changeOf (after ms) m
-  unfolding changeFlat
-  change-is = rw (K .all) (ap (λ (l : List Row). changeOf l m) (K .rows))
 
   fits : (i : ℕ) → SideFits (getD (after ms) i freeRow .bids) × SideFits (getD (after ms) i freeRow .asks)
   fits i = subst (λ (rows : List Row). SideFits (getD rows i freeRow .bids) × SideFits (getD rows i freeRow .asks)) (K .rows) (rows-fit (f .heads) (f .cells) i)
@@ -200,7 +201,7 @@ module _ (m : Quote) (ms : List Quote) (held : Held m) (K : Keeps ms) where
   unfolding changeOf
   storable =
       let fit = fits (placeOf (m .code) (after ms)) in
-      subst (λ (c : Change). Storable (c .row)) (sym change-is) (change-storable _ _ _ (fit .0) (fit .1) _ m held)
+      subst (λ (c : Change). Storable (c .row)) (sym (change-is m ms K)) (change-storable _ _ _ (fit .0) (fit .1) _ m held)
 
   keeps-next : Keeps (m ∷ ms)
   unfolding takenFlat
@@ -208,13 +209,25 @@ module _ (m : Quote) (ms : List Quote) (held : Held m) (K : Keeps ms) where
       let c = changeFlat f m in
       record {
         all = rw (K .all) (stored-whole f (c .at) (c .row) (K .all));
-        rows = rw (K .all) (stored-rows f (c .at) (c .row) (whole-long f (K .all)) storable ∙ ap₂ changed (K .rows) change-is);
+        rows = rw (K .all) (stored-rows f (c .at) (c .row) (whole-long f (K .all)) storable ∙ ap₂ changed (K .rows) (change-is m ms K));
       }
-
-  -- and the answer is the one that the rows give
-  pub flat-answers : takenAnswer f m ≡ answerTo ms m
-  flat-answers = ap (λ (c : Change). c .answer) change-is
 
 pub flat-series : (ms : List Quote) → AllOf Held ms → Keeps ms
 flat-series [] h = clear-keeps
 flat-series (m ∷ ms) h = keeps-next m ms (h .0) (flat-series ms (h .1))
+
+-- ---- and every call answers what the messages say
+pub flat-answers : (m : Quote) (ms : List Quote) → Keeps ms → takenAnswer (afterFlat ms) m ≡ answerTo ms m
+flat-answers m ms K = ap (λ (c : Change). c .answer) (change-is m ms K)
+
+pub flat-tells : (ms : List Quote) → AllOf Held ms → KeptTells ms
+unfolding askedFlat rowAtFlat inUseFlat
+flat-tells ms h =
+    let K = flat-series ms h in
+    let T = series-tells ms in
+    record {
+      answers = λ m. flat-answers m ms K ∙ T .answers m;
+      asked = λ code e. rw (K .all) (ap (λ (rows : List Row). askedOf rows code) (K .rows) ∙ T .asked code e);
+      in-use = rw (K .all) (ap inUseOf (K .rows) ∙ T .in-use);
+      row-at = λ at. rw (K .all) (ap (λ (rows : List Row). rowAtOf rows at) (K .rows) ∙ T .row-at at);
+    }
