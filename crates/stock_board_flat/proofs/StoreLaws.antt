@@ -8,8 +8,7 @@ use lib.ListN.{length, getD, set, take, drop, length-drop}
 use lib.Seq.{sets, length-sets, set-getD, getD-take, getD-drop, take-take, drop-drop, length-take-le}
 use borrow.Author.Tests.{eq-eqb, ne-eqb}
 use Rattle.digits.proofs.Bools.{no-false}
-use Rattle.layout.specs.Lists.{listed}
-use Rattle.layout.proofs.ListLaws.{listed-is}
+use Rattle.layout.proofs.ListLaws.{listed, listed-is}
 use Rattle.layout.proofs.PutLaws.{sets-behind, drop-sets}
 use Rattle.amounts.specs.declared.Pair.{Pair}
 use Rattle.stock_frame.specs.Codec.{legal}

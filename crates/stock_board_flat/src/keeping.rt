@@ -6,7 +6,6 @@ ghost use mathlib.Core.List.{[], _∷_, _++_};
 ghost use lib.Dec.{ltb};
 ghost use lib.ListN.{length, getD, take, drop};
 ghost use lib.Seq.{sets};
-ghost use Rattle.layout.specs.Lists.{listed};
 ghost use Rattle.stock_board.specs.Rows.{freeRow, rowAfter};
 ghost use Rattle.stock_quotes.specs.declared.Levels.the-variants.{NotShown};
 ghost use Rattle.stock_board.specs.declared.LastTrade.the-variants.{NoneYet};
@@ -88,33 +87,11 @@ fn time_of(low: u32, high: u32) -> u64
 // The amounts among a row's 26 cells.
 fn amounts_in(cells: &[u32]) -> [u32; 23]
     requires { ⌜ length (now cells) ≡ 26 ⌝ }
-    ensures { λ r. ⌜ r ≡ listed 23 0 0 (now (cells .entry)) ⌝ }
+    ensures { λ r. ⌜ r ≡ take 23 (now (cells .entry)) ⌝ }
 {
-    [
-        cells[0],
-        cells[1],
-        cells[2],
-        cells[3],
-        cells[4],
-        cells[5],
-        cells[6],
-        cells[7],
-        cells[8],
-        cells[9],
-        cells[10],
-        cells[11],
-        cells[12],
-        cells[13],
-        cells[14],
-        cells[15],
-        cells[16],
-        cells[17],
-        cells[18],
-        cells[19],
-        cells[20],
-        cells[21],
-        cells[22],
-    ]
+    let mut amounts = [0u32; 23];
+    put(&cells[0..AMOUNTS], &mut amounts, 0);
+    amounts
 }
 
 // The quote of a head and its 26 cells.

@@ -1,7 +1,10 @@
 -- `keeping::quote_from` meets its contract.
 use Prim.Native.Nat.{ℕ}
-use mathlib.Core.Path.{ap, ap₂, _∙_}
+use mathlib.Core.Path.{_≡_, sym, ap, ap₂, _∙_}
 use mathlib.Core.List.{List}
+use native.Mathlib.Omega.{arith}
+use lib.ListN.{length}
+use Rattle.layout.proofs.ListLaws.{listed-is}
 use Rattle.stock_quotes_numbers.specs.Numbers.{quoteFrom}
 use borrow.Author.Needs.{needs}
 use Rattle.stock_board_flat.proofs.keeping.quote_from.Statement.{statement}
@@ -39,9 +42,11 @@ returns c =
     let n = c .before .before in
     let t = n .before .before in
     let m = t .before .before .before in
+    let cells = m .before .before .before .args .cells .now in
+    let long : length cells ≡ 26 = search needs in
     c .quote-of .ensures
-    ∙ ap (quoteFrom 0 (m .marks-of .result) (t .time-of .result)) (n .amounts-in .ensures)
-    ∙ ap₂ (λ (marks : List ℕ) (time : ℕ). quoteFrom 0 marks time (m .before .before .before .args .cells .now)) (m .marks-of .ensures) (t .time-of .ensures)
+    ∙ ap (quoteFrom 0 (m .marks-of .result) (t .time-of .result)) (n .amounts-in .ensures ∙ sym (listed-is 23 0 0 cells (omega (arith, long))))
+    ∙ ap₂ (λ (marks : List ℕ) (time : ℕ). quoteFrom 0 marks time cells) (m .marks-of .ensures) (t .time-of .ensures)
 
 pub quote-from-spec : {M : Type 1} → statement M
 quote-from-spec =
