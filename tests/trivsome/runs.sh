@@ -49,11 +49,11 @@ readers() { for process in /proc/[0-9]*; do [ "$(readlink "$process/fd/0")" != "
 
 all_gone() { [ -z "$(readers)" ]; }
 
-# a signal to the script is one to the program, and leaves nothing behind
+# a signal to the script is one to the program, and leaves nothing behind; a gate under nohup hands down HUP as one to be ignored
 rm -f "$work/pipe"
 mkdir "$work/temporary" && mkfifo "$work/pipe" && exec 8<>"$work/pipe"
 for signal in TERM HUP; do
-    env TMPDIR="$work/temporary" ./trivsome listing <"$work/pipe" >"$work/file" 2>&1 8>&- &
+    env --default-signal=$signal TMPDIR="$work/temporary" ./trivsome listing <"$work/pipe" >"$work/file" 2>&1 8>&- &
     script=$!
     sleep 1
     ! all_gone || differs "nothing reads the pipe: $(cat "$work/file")"
