@@ -224,7 +224,7 @@ pub flat-tells : (ms : List Quote) → AllOf Held ms → KeptTells ms
 unfolding askedFlat rowAtFlat inUseFlat
 flat-tells ms h =
     let K = flat-series ms h in
-    let T = series-tells ms in
+    let T = series-tells ms .calls in
     record {
       answers = λ m. flat-answers m ms K ∙ T .answers m;
       asked = λ code e. rw (K .all) (ap (λ (rows : List Row). askedOf rows code) (K .rows) ∙ T .asked code e);

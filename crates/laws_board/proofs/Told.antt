@@ -103,8 +103,10 @@ series-tells ms =
     let b = state ms .board in
     record {
       board = b;
-      answers = λ m. next m ms (state ms) .1;
-      asked = λ code e. ap (λ (l : List Row). askedOf l code) b ∙ asked-told ms code e;
-      in-use = ap inUseOf b ∙ used-told ms;
-      row-at = λ at. ap (λ (l : List Row). rowAtOf l at) b ∙ row-told ms at;
+      calls = record {
+        answers = λ m. next m ms (state ms) .1;
+        asked = λ code e. ap (λ (l : List Row). askedOf l code) b ∙ asked-told ms code e;
+        in-use = ap inUseOf b ∙ used-told ms;
+        row-at = λ at. ap (λ (l : List Row). rowAtOf l at) b ∙ row-told ms at;
+      };
     }

@@ -74,13 +74,18 @@ found row = record { answer = Done; row = row }
 abbrev pub missing : Asked
 missing = record { answer = Refused 51; row = freeRow }
 
+-- the four calls, however the board is kept: a message's answer, the row of a code, how many rows are in use, the row at a place
+pub record CallsTell (ms : List Quote) (answer : Quote → BoardAnswer) (ask : Code → Asked) (used : InUse) (row : ℕ → Asked) : Type 0 where
+  -- a message is answered by the messages alone
+  pub answers : (m : Quote) → answer m ≡ answerBy ms m
+  -- the row of a code is what its messages say; a code that was never taken has none
+  pub asked : (code : Code) → stockCode code ≡ true → ask code ≡ cond (among code (listed ms)) (found (said code ms)) missing
+  -- the rows in use are those of the listed stocks, in their order
+  pub in-use : used ≡ InUse.Rows (length (listed ms))
+  pub row-at : (at : ℕ) → row at ≡ cond (ltb at (length (listed ms))) (found (said (getD (listed ms) at []) ms)) missing
+
+-- a board of rows
 pub record Tells (ms : List Quote) : Type 0 where
   -- the board is the rows of the listed stocks, each what its own messages say, and free rows
   pub board : after ms ≡ boardOf ms
-  -- a message is answered by the messages alone
-  pub answers : (m : Quote) → answerTo ms m ≡ answerBy ms m
-  -- the row of a code is what its messages say; a code that was never taken has none
-  pub asked : (code : Code) → stockCode code ≡ true → askedOf (after ms) code ≡ cond (among code (listed ms)) (found (said code ms)) missing
-  -- the rows in use are those of the listed stocks, in their order
-  pub in-use : inUseOf (after ms) ≡ InUse.Rows (length (listed ms))
-  pub row-at : (at : ℕ) → rowAtOf (after ms) at ≡ cond (ltb at (length (listed ms))) (found (said (getD (listed ms) at []) ms)) missing
+  pub calls : CallsTell ms (answerTo ms) (askedOf (after ms)) (inUseOf (after ms)) (rowAtOf (after ms))

@@ -1,17 +1,12 @@
 -- The board that is kept as lists of numbers: messages and lines as memory holds them.
 use Prim.Native.Nat.{ℕ, _<_}
-use mathlib.Core.Path.{_≡_}
-use mathlib.Core.Bool.{true, cond}
 use mathlib.Core.List.{List, [], _∷_}
-use lib.ListN.{length, getD}
-use lib.Dec.{ltb}
+use lib.ListN.{getD}
 use Rattle.stock_quotes.specs.Quotes.{ShapedQuote}
 use Rattle.stock_quotes.specs.declared.Quote.{Quote}
-use Rattle.stock_board.specs.Board.{stockCode}
-use Rattle.stock_board.specs.declared.InUse.{InUse}
 use Rattle.stock_board_flat.specs.Flat.{Flat}
 use Rattle.stock_board_flat.specs.Calls.{takenAnswer, takenFlat, clearFlat, askedFlat, rowAtFlat, inUseFlat}
-use Rattle.laws_board.specs.History.{Code, among, listed, said, answerBy, found, missing}
+use Rattle.laws_board.specs.History.{CallsTell}
 
 -- a message as memory holds it: its arrays have their lengths, its bytes are below 256
 pub record Held (m : Quote) : Type 0 where
@@ -28,9 +23,6 @@ abbrev pub afterFlat : List Quote → Flat
 afterFlat [] = clearFlat
 afterFlat (m ∷ ms) = takenFlat (afterFlat ms) m
 
--- what the calls on the lists tell after a series: what its messages say, as the calls on rows do
-pub record KeptTells (ms : List Quote) : Type 0 where
-  pub answers : (m : Quote) → takenAnswer (afterFlat ms) m ≡ answerBy ms m
-  pub asked : (code : Code) → stockCode code ≡ true → askedFlat (afterFlat ms) code ≡ cond (among code (listed ms)) (found (said code ms)) missing
-  pub in-use : inUseFlat (afterFlat ms) ≡ InUse.Rows (length (listed ms))
-  pub row-at : (at : ℕ) → rowAtFlat (afterFlat ms) at ≡ cond (ltb at (length (listed ms))) (found (said (getD (listed ms) at []) ms)) missing
+-- the calls on the lists tell after a series what its messages say, as those on rows do
+abbrev pub KeptTells : List Quote → Type 0
+KeptTells ms = let f = afterFlat ms in CallsTell ms (takenAnswer f) (askedFlat f) (inUseFlat f) (rowAtFlat f)
