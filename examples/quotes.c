@@ -11,14 +11,15 @@ static void print_pair(const char *name, bool there, trivsome_pair pair)
 
 static void print_quote(const trivsome_quote *quote)
 {
+    unsigned bids, asks;
     printf("%.6s %u", (const char *)quote->code, quote->seq);
     print_pair("trade", trivsome_has_trade(quote), quote->trade);
-    if (quote->levels == TRIVSOME_LEVELS_NOT_SHOWN) {
+    if (!trivsome_bids(quote, &bids) || !trivsome_asks(quote, &asks)) {
         puts(" levels not shown");
         return;
     }
-    print_pair("bid", trivsome_bids(quote) > 0, quote->bids[0]);
-    print_pair("ask", trivsome_asks(quote) > 0, quote->asks[0]);
+    print_pair("bid", bids != 0, quote->bids[0]);
+    print_pair("ask", asks != 0, quote->asks[0]);
     putchar('\n');
 }
 

@@ -138,11 +138,22 @@ typedef struct {
     trivsome_pair asks[5]; /* the best of each side first */
 } trivsome_quote;
 
-/* Whether there is a trade, and how many levels a side lists: 0 where the side is empty, and -1 where the levels are not shown, so
- * that a side of which nothing is said is not taken for an empty one. */
 static inline bool trivsome_has_trade(const trivsome_quote *quote) { return quote->reveal >> 7 != 0; }
-static inline int trivsome_bids(const trivsome_quote *quote) { return quote->levels == TRIVSOME_LEVELS_SHOWN ? quote->reveal >> 4 & 7 : -1; }
-static inline int trivsome_asks(const trivsome_quote *quote) { return quote->levels == TRIVSOME_LEVELS_SHOWN ? quote->reveal >> 1 & 7 : -1; }
+
+/* Whether the levels of a side are shown, and how many it then lists: 0 where the side is empty. Where they are not shown nothing
+ * is said of the side, and the count is 0 too: only the answer tells the one from the other. */
+static inline bool trivsome_bids(const trivsome_quote *quote, unsigned *count)
+{
+    bool shown = quote->levels == TRIVSOME_LEVELS_SHOWN;
+    *count = shown ? quote->reveal >> 4 & 7U : 0;
+    return shown;
+}
+static inline bool trivsome_asks(const trivsome_quote *quote, unsigned *count)
+{
+    bool shown = quote->levels == TRIVSOME_LEVELS_SHOWN;
+    *count = shown ? quote->reveal >> 1 & 7U : 0;
+    return shown;
+}
 
 typedef struct {
     uint8_t code[6];

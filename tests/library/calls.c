@@ -13,6 +13,13 @@ static bool filled(const void *memory, size_t size)
 #define FILL(thing) memset(&(thing), 0xA5, sizeof(thing))
 #define FILLED(thing) filled(&(thing), sizeof(thing))
 
+// What the two calls say of a quote's sides, with counts that held something else before.
+static bool lists(const trivsome_quote *quote, bool shown, unsigned bids, unsigned asks)
+{
+    unsigned b = 99, a = 99;
+    return trivsome_bids(quote, &b) == shown && trivsome_asks(quote, &a) == shown && b == bids && a == asks;
+}
+
 // The halt of docs/RULES.md, and the specification's fourth example of a quote with the check byte that the rule gives.
 static const uint8_t HALT[26] = {0x1B, 0x00, 0x26, 0x01, 0x19, 0x01, 0x00, 0x00, 0x00, 0x01, 0x31, 0x32, 0x33, 0x34,
                                  0x20, 0x20, 0x10, 0x05, 0x00, 0x99, 0x99, 0x99, 0x49, 0xFF, 0x0D, 0x0A};
@@ -84,7 +91,7 @@ static void reading(void)
     HOLDS(trivsome_read_quote(QUOTE, 41, 0, &q) == outcome(0, 6, 41, 8325));
     HOLDS(q.seq == 8325 && memcmp(q.code, "1301  ", 6) == 0 && q.time == 94519033017 && q.total == 1558);
     HOLDS(q.reveal == 0x80 && q.limit == 0x81 && q.status == 0 && q.trade.price == 335000 && q.trade.quantity == 0);
-    HOLDS(trivsome_has_trade(&q) && trivsome_bids(&q) == 0 && trivsome_asks(&q) == 0 && q.bids[0].price == 0 && q.asks[4].price == 0);
+    HOLDS(trivsome_has_trade(&q) && lists(&q, true, 0, 0) && q.bids[0].price == 0 && q.asks[4].price == 0);
 
     // a frame of another format: accepted with its own format, and the struct stays
     FILL(n), FILL(h), FILL(q);
@@ -217,11 +224,11 @@ static void reading_levels(void)
     FILL(q);
     HOLDS(trivsome_read_quote(TRADE_ONLY, 41, 0, &q) == outcome(0, 6, 41, 8325) && q.levels == TRIVSOME_LEVELS_NOT_SHOWN);
     HOLDS(q.reveal == 0x81 && q.limit == 0x81 && q.status == 0 && q.total == 1558 && q.time == 94519033017);
-    HOLDS(trivsome_has_trade(&q) && q.trade.price == 335000 && trivsome_bids(&q) == -1 && trivsome_asks(&q) == -1);
+    HOLDS(trivsome_has_trade(&q) && q.trade.price == 335000 && lists(&q, false, 0, 0));
     for (int i = 0; i < 5; i++) HOLDS(q.bids[i].price == 0 && q.bids[i].quantity == 0 && q.asks[i].price == 0 && q.asks[i].quantity == 0);
     FILL(q);
     HOLDS(trivsome_read_quote(NO_PAIR, 32, 0, &q) == outcome(0, 6, 32, 8325) && q.levels == TRIVSOME_LEVELS_NOT_SHOWN);
-    HOLDS(q.reveal == 0x01 && !trivsome_has_trade(&q) && trivsome_bids(&q) == -1 && trivsome_asks(&q) == -1 && q.trade.price == 0);
+    HOLDS(q.reveal == 0x01 && !trivsome_has_trade(&q) && lists(&q, false, 0, 0) && q.trade.price == 0);
 
     // every reveal byte over one pair
     for (unsigned reveal = 0; reveal < 256; reveal++) {
@@ -233,7 +240,7 @@ static void reading_levels(void)
         if (answer != 0) refused(line, 41, 0, outcome(answer, 0, 41, 0));
         else {
             HOLDS(trivsome_read_quote(line, 41, 0, &q) == outcome(0, 6, 41, 8325) && q.reveal == reveal && q.levels == levels);
-            HOLDS(trivsome_bids(&q) == (only_trade ? -1 : (int)bids) && trivsome_asks(&q) == (only_trade ? -1 : (int)asks));
+            HOLDS(lists(&q, !only_trade, bids, asks));
         }
     }
     // 10 before 11 and 12: a level beside bit 0, and a bad digit in the total, or an hour of 24
@@ -590,7 +597,7 @@ static void taking(void)
 // The row's sides are those of the quote.
 static bool sides_of(const trivsome_row *row, const trivsome_quote *quote)
 {
-    bool same = row->bid_count == trivsome_bids(quote) && row->ask_count == trivsome_asks(quote);
+    bool same = lists(quote, true, row->bid_count, row->ask_count);
     for (int i = 0; i < 5; i++) same = same && same_pair(row->bids[i], quote->bids[i]) && same_pair(row->asks[i], quote->asks[i]);
     return same;
 }
