@@ -7,7 +7,7 @@ use lib.Dec.{eqb, ltb}
 use borrow.Author.Tests.{eqb-true, eqb-false, ne-eqb, ltb-false}
 use Rattle.digits.proofs.Bools.{no-false}
 use Rattle.ledger.specs.Sets.{with, countTo}
-use Rattle.ledger.specs.Ends.{falling, heardAt, highestIn, heardIn, firstOf, lastOf, runsIn, turned, withNumber, fitted}
+use Rattle.ledger.specs.Ends.{falling, settledAt, highestIn, settledIn, firstOf, lastOf, runsIn, turned, withNumber, fitted}
 use Rattle.ledger.specs.Calls.{mostNumber, mostRuns, arrivalNumber, figureNumber, runNumber, valid, arrivedOf, figureBy, figureOf, runOf}
 use Rattle.ledger.specs.declared.Ledger.{Ledger}
 use Rattle.ledger.specs.declared.Arrival.{Arrival}
@@ -16,8 +16,8 @@ use Rattle.ledger.specs.declared.Figure.{Figure}
 use Rattle.ledger.specs.declared.RunAt.{RunAt}
 use Rattle.ledger.proofs.EndLaws.{falls-bound}
 use Rattle.ledger.proofs.SetLaws.{count-same}
-use Rattle.ledger.proofs.TrueLaws.{ends-heard}
-use Rattle.ledger.proofs.TurnLaws.{turn-falls, number-heard, fitted-falls, fitted-from}
+use Rattle.ledger.proofs.TrueLaws.{ends-settled}
+use Rattle.ledger.proofs.TurnLaws.{turn-falls, number-settled, fitted-falls, fitted-from}
 use Rattle.ledger.proofs.ArriveLaws.{valid-is, arrive-damaged, Arrives, outside, repeats, full, new, arrives}
 use Rattle.c_outcomes.specs.Outcomes.{answerPart}
 use Rattle.c_ledger.specs.Outcomes.{arrivalOutcome, figureOutcome, runOutcome, firstPart, lastPart}
@@ -80,34 +80,34 @@ count-with f n (suc k) lo hi miss = go (eqb (suc k) n) refl (f (suc k)) refl (λ
     go false p t q ih = let apart : suc k ≡ n → ⊥ = eqb-false (suc k) n p in omega (arith, ih (omega arith))
 
 -- so many more are then heard
-pub arrival-grows : (l : Ledger) (n : ℕ) → heardIn (arrivedOf l n .ledger .ends) ≡ heardIn (l .ends) + heardMore (arrivedOf l n .answer)
+pub arrival-grows : (l : Ledger) (n : ℕ) → settledIn (arrivedOf l n .ledger .ends) ≡ settledIn (l .ends) + heardMore (arrivedOf l n .answer)
 arrival-grows l n = go (valid l) refl
   where
-    grown : falling (mostNumber + 1) (l .ends) ≡ true → 1 ≤ n → n ≤ mostNumber → heardAt (l .ends) n ≡ false
-        → ltb mostRuns (runsIn (withNumber n (l .ends))) ≡ false → heardIn (fitted (withNumber n (l .ends))) ≡ heardIn (l .ends) + 1
+    grown : falling (mostNumber + 1) (l .ends) ≡ true → 1 ≤ n → n ≤ mostNumber → settledAt (l .ends) n ≡ false
+        → ltb mostRuns (runsIn (withNumber n (l .ends))) ≡ false → settledIn (fitted (withNumber n (l .ends))) ≡ settledIn (l .ends) + 1
     grown falls lo hi miss few =
         let es = l .ends in
         let more = withNumber n es in
         let more-falls : falling (mostNumber + 1) more ≡ true =
         turn-falls (mostNumber + 1) (n - 1) (turned n es) (omega arith) (turn-falls (mostNumber + 1) n es (omega arith) falls) in
         let k = n + highestIn es + highestIn (fitted more) in
-        let same : countTo (heardAt (fitted more)) k ≡ countTo (with n (heardAt es)) k =
-        count-same (heardAt (fitted more)) (with n (heardAt es)) k
+        let same : countTo (settledAt (fitted more)) k ≡ countTo (with n (settledAt es)) k =
+        count-same (settledAt (fitted more)) (with n (settledAt es)) k
         (λ y one le. ap (λ (c : ℕ). eqb (c % 2) 1) (fitted-from (mostNumber + 1) y more more-falls one (omega (arith, ltb-false mostRuns (runsIn more) few)))
-        ∙ number-heard n y es lo one miss) in
-        sym (ends-heard (mostNumber + 1) (fitted more) k (fitted-falls (mostNumber + 1) more more-falls) (omega arith))
-        ∙ same ∙ count-with (heardAt es) n k lo (omega arith) miss
-        ∙ ap (λ (c : ℕ). c + 1) (ends-heard (mostNumber + 1) es k falls (omega arith))
+        ∙ number-settled n y es lo one miss) in
+        sym (ends-settled (mostNumber + 1) (fitted more) k (fitted-falls (mostNumber + 1) more more-falls) (omega arith))
+        ∙ same ∙ count-with (settledAt es) n k lo (omega arith) miss
+        ∙ ap (λ (c : ℕ). c + 1) (ends-settled (mostNumber + 1) es k falls (omega arith))
 
-    by-case : valid l ≡ true → (x : Arrived) → Arrives l n x → heardIn (x .ledger .ends) ≡ heardIn (l .ends) + heardMore (x .answer)
+    by-case : valid l ≡ true → (x : Arrived) → Arrives l n x → settledIn (x .ledger .ends) ≡ settledIn (l .ends) + heardMore (x .answer)
     by-case v x (outside e) = omega arith
     by-case v x (repeats lo hi e) = omega arith
     by-case v x (full lo hi e f) = omega arith
     by-case v x (new lo hi e f) = grown (valid-falls l v) lo hi e f
 
-    go : (v : Bool) → valid l ≡ v → heardIn (arrivedOf l n .ledger .ends) ≡ heardIn (l .ends) + heardMore (arrivedOf l n .answer)
+    go : (v : Bool) → valid l ≡ v → settledIn (arrivedOf l n .ledger .ends) ≡ settledIn (l .ends) + heardMore (arrivedOf l n .answer)
     go true v = by-case v (arrivedOf l n) (arrives l n v)
-    go false v = subst (λ (x : Arrived). heardIn (x .ledger .ends) ≡ heardIn (l .ends) + heardMore (x .answer)) (arrive-damaged l n v) (omega arith)
+    go false v = subst (λ (x : Arrived). settledIn (x .ledger .ends) ≡ settledIn (l .ends) + heardMore (x .answer)) (arrive-damaged l n v) (omega arith)
 
 -- ---- figures
 -- the answer that a figure's outcome tells

@@ -7,7 +7,7 @@ use mathlib.Core.List.{List, [], _∷_}
 use lib.ListN.{length, getD}
 use lib.Dec.{leb, eqb}
 use borrow.Author.Tests.{leb-true, leb-false, le-leb, lt-leb, eqb-true, eqb-false, eq-eqb, ne-eqb}
-use Rattle.ledger.specs.Ends.{falling, endsFrom, heardAt, highestIn, heardIn}
+use Rattle.ledger.specs.Ends.{falling, endsFrom, settledAt, highestIn, settledIn}
 
 pub both-left : (p q : Bool) → (p && q) ≡ true → p ≡ true
 both-left true q h = refl
@@ -100,29 +100,29 @@ from-between b y es i h le lt = go (leb (endsFrom y es) (suc i)) refl
     go true p = omega (arith, leb-true (endsFrom y es) (suc i) p, from-above b y es i h (omega arith) le)
     go false p = absurd (omega (arith, from-below b y es (suc i) h (omega arith) (leb-false (endsFrom y es) (suc i) p)))
 
--- heard by an odd count, missing by an even one
-pub odd-heard : (es : List ℕ) (y : ℕ) → endsFrom y es % 2 ≡ 1 → heardAt es y ≡ true
-odd-heard es y h = eq-eqb (endsFrom y es % 2) 1 h
+-- settled by an odd count, missing by an even one
+pub odd-settled : (es : List ℕ) (y : ℕ) → endsFrom y es % 2 ≡ 1 → settledAt es y ≡ true
+odd-settled es y h = eq-eqb (endsFrom y es % 2) 1 h
 
-pub even-missing : (es : List ℕ) (y : ℕ) → endsFrom y es % 2 ≡ 0 → heardAt es y ≡ false
+pub even-missing : (es : List ℕ) (y : ℕ) → endsFrom y es % 2 ≡ 0 → settledAt es y ≡ false
 even-missing es y h = ne-eqb (endsFrom y es % 2) 1 (λ (e : endsFrom y es % 2 ≡ 1). omega arith)
 
-pub heard-odd : (es : List ℕ) (y : ℕ) → heardAt es y ≡ true → endsFrom y es % 2 ≡ 1
-heard-odd es y h = eqb-true (endsFrom y es % 2) 1 h
+pub settled-odd : (es : List ℕ) (y : ℕ) → settledAt es y ≡ true → endsFrom y es % 2 ≡ 1
+settled-odd es y h = eqb-true (endsFrom y es % 2) 1 h
 
-pub missing-even : (es : List ℕ) (y : ℕ) → heardAt es y ≡ false → endsFrom y es % 2 ≡ 0
+pub missing-even : (es : List ℕ) (y : ℕ) → settledAt es y ≡ false → endsFrom y es % 2 ≡ 0
 missing-even es y h =
     let odd : endsFrom y es % 2 ≡ 1 → ⊥ = eqb-false (endsFrom y es % 2) 1 h in
     omega arith
 
 -- up to an end in front every number changes sides
-pub heard-under : (e y : ℕ) (es : List ℕ) → y ≤ e → heardAt (e ∷ es) y ≡ not (heardAt es y)
-heard-under e y es le = rw (le-leb y e le) (go (heardAt es y) refl)
+pub settled-under : (e y : ℕ) (es : List ℕ) → y ≤ e → settledAt (e ∷ es) y ≡ not (settledAt es y)
+settled-under e y es le = rw (le-leb y e le) (go (settledAt es y) refl)
   where
-    go : (t : Bool) → heardAt es y ≡ t → eqb ((1 + endsFrom y es) % 2) 1 ≡ not t
-    go true p = ne-eqb ((1 + endsFrom y es) % 2) 1 (λ (q : (1 + endsFrom y es) % 2 ≡ 1). omega (arith, heard-odd es y p))
+    go : (t : Bool) → settledAt es y ≡ t → eqb ((1 + endsFrom y es) % 2) 1 ≡ not t
+    go true p = ne-eqb ((1 + endsFrom y es) % 2) 1 (λ (q : (1 + endsFrom y es) % 2 ≡ 1). omega (arith, settled-odd es y p))
     go false p = eq-eqb ((1 + endsFrom y es) % 2) 1 (omega (arith, missing-even es y p))
 
-pub heard-under-highest : (es : List ℕ) → heardIn es ≤ highestIn es
-heard-under-highest [] = omega arith
-heard-under-highest (e ∷ es) = omega arith
+pub settled-under-highest : (es : List ℕ) → settledIn es ≤ highestIn es
+settled-under-highest [] = omega arith
+settled-under-highest (e ∷ es) = omega arith

@@ -7,11 +7,11 @@ use mathlib.Core.List.{List, []}
 use lib.Dec.{leb, eqb}
 use borrow.Author.Tests.{leb-true, leb-false, le-leb, lt-leb, eqb-true, eqb-false}
 use Rattle.ledger.specs.Sets.{with, runsTo, Highest, RunsOf, HasRuns, TrueOf}
-use Rattle.ledger.specs.Ends.{falling, heardAt, highestIn, heardIn, missingIn, runsIn, firstOf, lastOf, turned, withNumber}
+use Rattle.ledger.specs.Ends.{falling, settledAt, highestIn, settledIn, missingIn, runsIn, firstOf, lastOf, turned, withNumber}
 use Rattle.ledger.proofs.EndLaws.{falls-under}
 use Rattle.ledger.proofs.SetLaws.{highest-once, true-same, with-highest}
 use Rattle.ledger.proofs.TrueLaws.{ends-true}
-use Rattle.ledger.proofs.TurnLaws.{turn-falls, number-heard}
+use Rattle.ledger.proofs.TurnLaws.{turn-falls, number-settled}
 
 -- the ends of the numbers of a set up to a bound
 abbrev endsOf : (ℕ → Bool) → ℕ → List ℕ
@@ -28,7 +28,7 @@ ends-fall f (suc k) = go (f (suc k)) (falls-under (k + 1) (suc k + 1) (endsOf f 
     go false ih = ih
 
 -- they hold those numbers and no other
-module _ (f : ℕ → Bool) (k : ℕ) (held : (y : ℕ) → 1 ≤ y → heardAt (endsOf f k) y ≡ (leb y k && f y)) where
+module _ (f : ℕ → Bool) (k : ℕ) (held : (y : ℕ) → 1 ≤ y → settledAt (endsOf f k) y ≡ (leb y k && f y)) where
   lower : (y : ℕ) → (y ≡ suc k → ⊥) → leb y k ≡ leb y (suc k)
   lower y ne = go (leb y k) refl
     where
@@ -44,25 +44,25 @@ module _ (f : ℕ → Bool) (k : ℕ) (held : (y : ℕ) → 1 ≤ y → heardAt 
   next-out y is true p = let q : y ≡ suc k = eqb-true y (suc k) p in rw (q, is) (and-false (leb (suc k) k) ∙ sym (and-false (leb (suc k) (suc k))))
   next-out y is false p = ap (λ (b : Bool). b && f y) (lower y (eqb-false y (suc k) p))
 
-  hold-next : (y : ℕ) → 1 ≤ y → heardAt (endsOf f (suc k)) y ≡ (leb y (suc k) && f y)
+  hold-next : (y : ℕ) → 1 ≤ y → settledAt (endsOf f (suc k)) y ≡ (leb y (suc k) && f y)
   hold-next y lo = go (f (suc k)) refl
     where
-      miss : heardAt (endsOf f k) (suc k) ≡ false
+      miss : settledAt (endsOf f k) (suc k) ≡ false
       miss = held (suc k) (omega arith) ∙ rw (lt-leb (suc k) k (omega arith)) refl
 
-      go : (t : Bool) → f (suc k) ≡ t → heardAt (cond t (withNumber (suc k) (endsOf f k)) (endsOf f k)) y ≡ (leb y (suc k) && f y)
+      go : (t : Bool) → f (suc k) ≡ t → settledAt (cond t (withNumber (suc k) (endsOf f k)) (endsOf f k)) y ≡ (leb y (suc k) && f y)
       go true is =
-          number-heard (suc k) y (endsOf f k) (omega arith) lo miss
+          number-settled (suc k) y (endsOf f k) (omega arith) lo miss
           ∙ ap (λ (b : Bool). eqb y (suc k) || b) (held y lo)
           ∙ next-in y is (eqb y (suc k)) refl
       go false is = held y lo ∙ next-out y is (eqb y (suc k)) refl
 
-ends-hold : (f : ℕ → Bool) (k y : ℕ) → 1 ≤ y → heardAt (endsOf f k) y ≡ (leb y k && f y)
+ends-hold : (f : ℕ → Bool) (k y : ℕ) → 1 ≤ y → settledAt (endsOf f k) y ≡ (leb y k && f y)
 ends-hold f zero y lo = rw (lt-leb y 0 (omega arith)) refl
 ends-hold f (suc k) y lo = hold-next f k (λ (z : ℕ) (one : 1 ≤ z). ends-hold f k z one) y lo
 
 -- those up to its highest number hold the whole set
-ends-all : (f : ℕ → Bool) (top y : ℕ) → Highest f top → 1 ≤ y → heardAt (endsOf f top) y ≡ f y
+ends-all : (f : ℕ → Bool) (top y : ℕ) → Highest f top → 1 ≤ y → settledAt (endsOf f top) y ≡ f y
 ends-all f top y hi lo = ends-hold f top y lo ∙ go (leb y top) refl
   where
     go : (t : Bool) → leb y top ≡ t → (t && f y) ≡ f y
@@ -73,8 +73,8 @@ ends-all f top y hi lo = ends-hold f top y lo ∙ go (leb y top) refl
 pub runs-counted : (f : ℕ → Bool) (top : ℕ) → Highest f top → HasRuns f top (runsTo f top)
 runs-counted f top hi =
     let es = endsOf f top in
-    let is : TrueOf f (highestIn es) (heardIn es) (missingIn es) (runsIn es) (firstOf es) (lastOf es) =
-    true-same (heardAt es) f (λ (y : ℕ) (lo : 1 ≤ y). ends-all f top y hi lo) (highestIn es) (heardIn es) (missingIn es) (runsIn es) (firstOf es) (lastOf es)
+    let is : TrueOf f (highestIn es) (settledIn es) (missingIn es) (runsIn es) (firstOf es) (lastOf es) =
+    true-same (settledAt es) f (λ (y : ℕ) (lo : 1 ≤ y). ends-all f top y hi lo) (highestIn es) (settledIn es) (missingIn es) (runsIn es) (firstOf es) (lastOf es)
     (ends-true (top + 1) es (ends-fall f top)) in
     let highest : highestIn es ≡ top = highest-once f (highestIn es) top (is .is-highest) hi in
     let runs : runsIn es ≡ runsTo f top = is .is-runs ∙ ap (λ (t : ℕ). runsTo f t) highest in

@@ -9,7 +9,7 @@ use lib.ListN.{length, replicate}
 use lib.Dec.{eqb}
 use borrow.Author.Tests.{ltb-true, ltb-false, lt-ltb, le-ltb}
 use Rattle.ledger.specs.Sets.{with, runsTo, Highest}
-use Rattle.ledger.specs.Ends.{places, falling, endsFrom, heardAt, highestIn, heardIn, missingIn, runsIn, firstOf, lastOf, turned, withNumber, fitted}
+use Rattle.ledger.specs.Ends.{places, falling, endsFrom, settledAt, highestIn, settledIn, missingIn, runsIn, firstOf, lastOf, turned, withNumber, fitted}
 use Rattle.ledger.specs.Calls.{mostNumber, mostRuns, arrivalNumber, fresh, valid, arrivedOf}
 use Rattle.ledger.specs.History.{after, answerTo, recorded, Tells, answerBy}
 use Rattle.ledger.specs.declared.Ledger.{Ledger}
@@ -17,7 +17,7 @@ use Rattle.ledger.specs.declared.Arrived.{Arrived}
 use Rattle.ledger.proofs.EndLaws.{from-length, even-missing}
 use Rattle.ledger.proofs.SetLaws.{runs-same, highest-once, highest-same, true-same, with-highest, with-there}
 use Rattle.ledger.proofs.TrueLaws.{ends-highest, ends-runs, ends-true}
-use Rattle.ledger.proofs.TurnLaws.{turn-falls, number-heard, from-zeros, fitted-falls, fitted-whole, fitted-from}
+use Rattle.ledger.proofs.TurnLaws.{turn-falls, number-settled, from-zeros, fitted-falls, fitted-whole, fitted-from}
 use Rattle.ledger.proofs.ArriveLaws.{Arrives, outside, repeats, full, new, arrives, inside, valid-is}
 
 -- a record as arrivals leave it: 129 places, and valid
@@ -49,17 +49,17 @@ series-good (n ∷ ns) = let g = series-good ns in good-after (after ns) n (arri
 
 -- an arrival that is not refused puts its number in, and no other changes sides
 heard-after : (l : Ledger) (n y : ℕ) (r : Arrived) → 1 ≤ y → Good l → Arrives l n r
-    → heardAt (r .ledger .ends) y ≡ ((eqb y n && eqb (arrivalNumber (r .answer)) 0) || heardAt (l .ends) y)
+    → settledAt (r .ledger .ends) y ≡ ((eqb y n && eqb (arrivalNumber (r .answer)) 0) || settledAt (l .ends) y)
 heard-after l n y r lo g (outside o) = rw (and-false (eqb y n)) refl
 heard-after l n y r lo g (full one hi miss many) = rw (and-false (eqb y n)) refl
-heard-after l n y r lo g (repeats one hi there) = rw (and-true (eqb y n)) (sym (with-there (heardAt (l .ends)) n y there))
+heard-after l n y r lo g (repeats one hi there) = rw (and-true (eqb y n)) (sym (with-there (settledAt (l .ends)) n y there))
 heard-after l n y r lo g (new one hi miss few) =
     let more = withNumber n (l .ends) in
     let count : endsFrom y (fitted more) ≡ endsFrom y more =
     fitted-from (mostNumber + 1) y more (number-falls n (l .ends) hi (g .falls)) lo (omega (arith, ltb-false mostRuns (runsIn more) few)) in
-    rw (and-true (eqb y n)) (ap (λ (k : ℕ). eqb (k % 2) 1) count ∙ number-heard n y (l .ends) one lo miss)
+    rw (and-true (eqb y n)) (ap (λ (k : ℕ). eqb (k % 2) 1) count ∙ number-settled n y (l .ends) one lo miss)
 
-pub series-heard : (ns : List ℕ) (y : ℕ) → 1 ≤ y → heardAt (after ns .ends) y ≡ recorded ns y
+pub series-heard : (ns : List ℕ) (y : ℕ) → 1 ≤ y → settledAt (after ns .ends) y ≡ recorded ns y
 series-heard [] y lo = even-missing (replicate places 0) y (omega (arith, from-zeros y places lo))
 series-heard (n ∷ ns) y lo =
     let g = series-good ns in
@@ -74,7 +74,7 @@ series-told ns =
     let ok : valid (after ns) ≡ true = good-valid (after ns) g in
     record {
       highest = highestIn es;
-      heard = heardIn es;
+      heard = settledIn es;
       missing = missingIn es;
       runs = runsIn es;
       first = firstOf es;
@@ -85,30 +85,30 @@ series-told ns =
       says-runs = rw ok refl;
       says-run = λ (k : ℕ) (lt : k < runsIn es). rw (ok, lt-ltb k (runsIn es) lt) refl;
       says-no-run = λ (k : ℕ) (le : runsIn es ≤ k). rw (ok, le-ltb k (runsIn es) le) refl;
-      true-of = true-same (heardAt es) (recorded ns) (series-heard ns) (highestIn es) (heardIn es) (missingIn es) (runsIn es) (firstOf es) (lastOf es) (ends-true (mostNumber + 1) es (g .falls));
+      true-of = true-same (settledAt es) (recorded ns) (series-heard ns) (highestIn es) (settledIn es) (missingIn es) (runsIn es) (firstOf es) (lastOf es) (ends-true (mostNumber + 1) es (g .falls));
     }
 
 -- the runs that recording a number would leave
 module _ (ns : List ℕ) (n top : ℕ) (one : 1 ≤ n) (hi : Highest (recorded ns) top) where
   -- ends that hold the set with the number tell them
-  runs-with : (more : List ℕ) → falling (mostNumber + 1) more ≡ true → ((y : ℕ) → 1 ≤ y → heardAt more y ≡ with n (recorded ns) y)
+  runs-with : (more : List ℕ) → falling (mostNumber + 1) more ≡ true → ((y : ℕ) → 1 ≤ y → settledAt more y ≡ with n (recorded ns) y)
       → runsTo (with n (recorded ns)) (max n top) ≡ runsIn more
   runs-with more falls same =
       let highest : highestIn more ≡ max n top =
       highest-once (with n (recorded ns)) (highestIn more) (max n top)
-      (highest-same (heardAt more) (with n (recorded ns)) same (highestIn more) (ends-highest (mostNumber + 1) more falls))
+      (highest-same (settledAt more) (with n (recorded ns)) same (highestIn more) (ends-highest (mostNumber + 1) more falls))
       (with-highest (recorded ns) n top one hi) in
-      sym (runs-same (heardAt more) (with n (recorded ns)) (max n top) (λ (y : ℕ) (lo : 1 ≤ y) (up : y ≤ max n top). same y lo))
-      ∙ ap (λ (k : ℕ). runsTo (heardAt more) k) (sym highest) ∙ ends-runs (mostNumber + 1) more falls .0
+      sym (runs-same (settledAt more) (with n (recorded ns)) (max n top) (λ (y : ℕ) (lo : 1 ≤ y) (up : y ≤ max n top). same y lo))
+      ∙ ap (λ (k : ℕ). runsTo (settledAt more) k) (sym highest) ∙ ends-runs (mostNumber + 1) more falls .0
 
-  runs-more : n ≤ mostNumber → heardAt (after ns .ends) n ≡ false → runsTo (with n (recorded ns)) (max n top) ≡ runsIn (withNumber n (after ns .ends))
+  runs-more : n ≤ mostNumber → settledAt (after ns .ends) n ≡ false → runsTo (with n (recorded ns)) (max n top) ≡ runsIn (withNumber n (after ns .ends))
   runs-more most miss =
       let es = after ns .ends in
       runs-with (withNumber n es) (number-falls n es most (series-good ns .falls))
-      (λ (y : ℕ) (lo : 1 ≤ y). number-heard n y es one lo miss ∙ ap (λ (b : Bool). eqb y n || b) (series-heard ns y lo))
+      (λ (y : ℕ) (lo : 1 ≤ y). number-settled n y es one lo miss ∙ ap (λ (b : Bool). eqb y n || b) (series-heard ns y lo))
 
   -- a number that is recorded already would leave those that there are
-  runs-kept : heardAt (after ns .ends) n ≡ true → runsTo (with n (recorded ns)) (max n top) ≤ mostRuns
+  runs-kept : settledAt (after ns .ends) n ≡ true → runsTo (with n (recorded ns)) (max n top) ≤ mostRuns
   runs-kept there =
       let es = after ns .ends in
       let g = series-good ns in

@@ -71,9 +71,9 @@ run-above f top k hi lt =
     starts : startsRun f (suc top) ≡ true
     starts = ⊎-elim at-one after-top (hi .there)
 
--- no heard stretch lies there
-pub none-heard-above : (f : ℕ → Bool) (top k : ℕ) → Highest f top → top ≤ k → runsTo (λ (y : ℕ). not (f y)) k ≡ runsTo (λ (y : ℕ). not (f y)) top
-none-heard-above f top k hi le = count-above (startsRun (λ (y : ℕ). not (f y))) top k le (λ (y : ℕ) (a : top < y) (b : y ≤ k). rw (hi .none-above y a) refl)
+-- no settled stretch lies there
+pub none-settled-above : (f : ℕ → Bool) (top k : ℕ) → Highest f top → top ≤ k → runsTo (λ (y : ℕ). not (f y)) k ≡ runsTo (λ (y : ℕ). not (f y)) top
+none-settled-above f top k hi le = count-above (startsRun (λ (y : ℕ). not (f y))) top k le (λ (y : ℕ) (a : top < y) (b : y ≤ k). rw (hi .none-above y a) refl)
 
 -- a set has one highest number
 pub highest-once : (f : ℕ → Bool) (a b : ℕ) → Highest f a → Highest f b → a ≡ b

@@ -9,7 +9,7 @@ use lib.Seq.{length-take-le, take-at}
 use lib.Dec.{leb, ltb, eqb}
 use borrow.Author.Tests.{leb-true, leb-false, le-leb, lt-leb, ltb-true, ltb-false, le-ltb, eqb-true, eqb-false, eq-eqb, ne-eqb}
 use Rattle.ledger.specs.Sets.{with}
-use Rattle.ledger.specs.Ends.{places, falling, endsFrom, heardAt, turned, withNumber, fitted}
+use Rattle.ledger.specs.Ends.{places, falling, endsFrom, settledAt, turned, withNumber, fitted}
 use Rattle.ledger.proofs.EndLaws.{falls-head, falls-tail, falls-cons, falls-under, from-none, missing-even}
 
 -- an end turned at x: one more or one less for each number up to x
@@ -48,8 +48,8 @@ number-count n y es =
     let inner : endsFrom y (turned n es) % 2 ≡ (endsFrom y es + cond (leb y n) 1 0) % 2 = turn-count n y es in
     turn-count (n - 1) y (turned n es) ∙ omega arith
 
-pub number-heard : (n y : ℕ) (es : List ℕ) → 1 ≤ n → 1 ≤ y → heardAt es n ≡ false → heardAt (withNumber n es) y ≡ with n (heardAt es) y
-number-heard n y es one lo miss = go (eqb y n) refl
+pub number-settled : (n y : ℕ) (es : List ℕ) → 1 ≤ n → 1 ≤ y → settledAt es n ≡ false → settledAt (withNumber n es) y ≡ with n (settledAt es) y
+number-settled n y es one lo miss = go (eqb y n) refl
   where
     count : endsFrom y (withNumber n es) % 2 ≡ (endsFrom y es + cond (leb y n) 1 0 + cond (leb y (n - 1)) 1 0) % 2
     count = number-count n y es
@@ -64,7 +64,7 @@ number-heard n y es one lo miss = go (eqb y n) refl
         let u : leb y (n - 1) ≡ false = lt-leb y (n - 1) (omega arith) in
         count ∙ rw (p, u) (omega arith)
 
-    go : (t : Bool) → eqb y n ≡ t → heardAt (withNumber n es) y ≡ (t || heardAt es y)
+    go : (t : Bool) → eqb y n ≡ t → settledAt (withNumber n es) y ≡ (t || settledAt es y)
     go true q =
         let same : y ≡ n = eqb-true y n q in
         let even : endsFrom y es % 2 ≡ 0 = rw same (missing-even es n miss) in

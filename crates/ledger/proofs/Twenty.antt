@@ -9,7 +9,7 @@ use lib.ListN.{length, take, replicate, length-append}
 use lib.Seq.{take-at}
 use lib.Dec.{leb, ltb, eqb}
 use borrow.Author.Tests.{leb-true, leb-false, eqb-true, eqb-false, lt-ltb, le-ltb}
-use Rattle.ledger.specs.Ends.{places, falling, endsFrom, heardAt, highestIn, heardIn, missingIn, runsIn, firstOf, lastOf, turned, withNumber, fitted}
+use Rattle.ledger.specs.Ends.{places, falling, endsFrom, settledAt, highestIn, settledIn, missingIn, runsIn, firstOf, lastOf, turned, withNumber, fitted}
 use Rattle.ledger.specs.Calls.{mostNumber, mostRuns, arrivalNumber, figureNumber, runNumber, valid, stays, arrivedOf, lentArrivedOf, figureOf, runOf, withEnds}
 use Rattle.ledger.specs.History.{Reached, Exactly20, LentExactly20}
 use Rattle.ledger.specs.declared.Ledger.{Ledger}
@@ -43,7 +43,7 @@ reached-by : (es less : List ℕ) (n : ℕ) → falling (mostNumber + 1) less �
     → endsFrom 1 (withNumber n less) ≤ places → fitted (withNumber n less) ≡ es → Reached (withEnds less) → Reached (withEnds es)
 reached-by es less n falls lo hi none few fit (ns, is) =
     let ok : valid (withEnds less) ≡ true = sym (valid-is less) ∙ falls in
-    let miss : heardAt less n ≡ false = even-missing less n (omega arith) in
+    let miss : settledAt less n ≡ false = even-missing less n (omega arith) in
     let room : ltb mostRuns (runsIn (withNumber n less)) ≡ false = le-ltb mostRuns (runsIn (withNumber n less)) (omega arith) in (
       n ∷ ns,
       ap (λ (l : Ledger). arrivedOf l n .ledger) is ∙ ap (λ (r : Arrived). r .ledger) (sym (arrive-new (withEnds less) n ok lo hi miss room)) ∙ ap withEnds fit,
@@ -183,7 +183,7 @@ twenty-exactly l long = record {
       (λ (bad : valid l ≡ false). ap (λ (r : Arrived). arrivalNumber (r .answer)) (sym (arrive-damaged l n bad)))
       (λ (ok : valid l ≡ true). arrival-other l n (arrivedOf l n) (arrives l n ok));
   highest = figure-exactly l (highestIn (l .ends)) long;
-  heard = figure-exactly l (heardIn (l .ends)) long;
+  heard = figure-exactly l (settledIn (l .ends)) long;
   missing = figure-exactly l (missingIn (l .ends)) long;
   runs = figure-exactly l (runsIn (l .ends)) long;
   run = λ (k : ℕ). run-exactly l k long;

@@ -5,7 +5,7 @@ use mathlib.Core.Bool.{Bool, true, false, cond, not}
 use mathlib.Core.List.{[], _∷_}
 use lib.ListN.{length}
 use lib.Dec.{ltb, eqb}
-use Rattle.ledger.specs.Ends.{places, heardAt, highestIn, heardIn, missingIn, runsIn, firstOf, lastOf}
+use Rattle.ledger.specs.Ends.{places, settledAt, highestIn, settledIn, missingIn, runsIn, firstOf, lastOf}
 use Rattle.ledger.specs.Calls.{arrivalNumber, arrivalValues, figureNumber, figureValues, runNumber, runValues, valid, stays, withEnds, arrivedOf, lentArrivedOf, figureBy, figureOf, runOf, beside, Returns}
 use Rattle.ledger.specs.declared.Ledger.{Ledger}
 use Rattle.ledger.specs.declared.Arrival.{Arrival}
@@ -15,7 +15,7 @@ use Rattle.ledger.proofs.ArriveLaws.{arrive-damaged, Arrives, outside, 
 
 -- an arrival's answer has its value
 abbrev Valued : Ledger → ℕ → Arrived → Type 0
-Valued l n r = arrivalValues (r .answer) ≡ beside (arrivalNumber (r .answer)) (cond (heardAt (l .ends) n) 0 1 ∷ [])
+Valued l n r = arrivalValues (r .answer) ≡ beside (arrivalNumber (r .answer)) (cond (settledAt (l .ends) n) 0 1 ∷ [])
 
 arrival-by : (l : Ledger) (n : ℕ) (r : Arrived) → Arrives l n r → Valued l n r
 arrival-by l n r (outside o) = refl
@@ -60,7 +60,7 @@ returns-values l = record {
   arrival = arrival-returns l;
   lent-arrival = lent-returns l;
   highest = figure-returns l (highestIn (l .ends));
-  heard = figure-returns l (heardIn (l .ends));
+  heard = figure-returns l (settledIn (l .ends));
   missing = figure-returns l (missingIn (l .ends));
   runs = figure-returns l (runsIn (l .ends));
   run = run-returns l;

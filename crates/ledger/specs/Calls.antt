@@ -5,7 +5,7 @@ use mathlib.Core.Bool.{Bool, cond, not, _||_}
 use mathlib.Core.List.{List, [], _∷_}
 use lib.ListN.{length, replicate}
 use lib.Dec.{ltb, eqb}
-use Rattle.ledger.specs.Ends.{places, falling, heardAt, highestIn, heardIn, missingIn, runsIn, firstOf, lastOf, withNumber, fitted}
+use Rattle.ledger.specs.Ends.{places, falling, settledAt, highestIn, settledIn, missingIn, runsIn, firstOf, lastOf, withNumber, fitted}
 use Rattle.ledger.specs.declared.Ledger.{Ledger}
 use Rattle.ledger.specs.declared.Arrival.{Arrival}
 use Rattle.ledger.specs.declared.Arrived.{Arrived}
@@ -69,7 +69,7 @@ arrivedOf l n =
     let more = withNumber n (l .ends) in
     cond (not (valid l)) (stays l (Arrival.Refused 20))
     (cond (eqb n 0 || ltb mostNumber n) (stays l (Arrival.Refused 21))
-    (cond (heardAt (l .ends) n) (stays l Arrival.Repeat)
+    (cond (settledAt (l .ends) n) (stays l Arrival.Repeat)
     (cond (ltb mostRuns (runsIn more)) (stays l (Arrival.Refused 22))
     (record { ledger = record { ends = fitted more }; answer = Arrival.New }))))
 
@@ -92,7 +92,7 @@ abbrev pub highestOf : Ledger → Figure
 highestOf l = figureOf l (highestIn (l .ends))
 
 abbrev pub heardOf : Ledger → Figure
-heardOf l = figureOf l (heardIn (l .ends))
+heardOf l = figureOf l (settledIn (l .ends))
 
 abbrev pub missingOf : Ledger → Figure
 missingOf l = figureOf l (missingIn (l .ends))
@@ -112,10 +112,10 @@ beside number values = cond (eqb number 0) values []
 
 -- what each call returns beside its answer's number, for every ledger and every list of ends
 pub record Returns (l : Ledger) : Type 0 where
-  pub arrival : (n : ℕ) → let a = arrivedOf l n .answer in arrivalValues a ≡ beside (arrivalNumber a) (cond (heardAt (l .ends) n) 0 1 ∷ [])
-  pub lent-arrival : (n : ℕ) → let a = lentArrivedOf (l .ends) n .answer in arrivalValues a ≡ beside (arrivalNumber a) (cond (heardAt (l .ends) n) 0 1 ∷ [])
+  pub arrival : (n : ℕ) → let a = arrivedOf l n .answer in arrivalValues a ≡ beside (arrivalNumber a) (cond (settledAt (l .ends) n) 0 1 ∷ [])
+  pub lent-arrival : (n : ℕ) → let a = lentArrivedOf (l .ends) n .answer in arrivalValues a ≡ beside (arrivalNumber a) (cond (settledAt (l .ends) n) 0 1 ∷ [])
   pub highest : figureValues (highestOf l) ≡ beside (figureNumber (highestOf l)) (highestIn (l .ends) ∷ [])
-  pub heard : figureValues (heardOf l) ≡ beside (figureNumber (heardOf l)) (heardIn (l .ends) ∷ [])
+  pub heard : figureValues (heardOf l) ≡ beside (figureNumber (heardOf l)) (settledIn (l .ends) ∷ [])
   pub missing : figureValues (missingOf l) ≡ beside (figureNumber (missingOf l)) (missingIn (l .ends) ∷ [])
   pub runs : figureValues (runsOf l) ≡ beside (figureNumber (runsOf l)) (runsIn (l .ends) ∷ [])
   pub run : (k : ℕ) → runValues (runOf l k) ≡ beside (runNumber (runOf l k)) (firstOf (l .ends) k ∷ lastOf (l .ends) k ∷ [])

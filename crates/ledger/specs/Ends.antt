@@ -1,4 +1,5 @@
--- What a record holds: the last number of each unbroken stretch, heard and missing by turns, from the highest down.
+-- What a record holds: the last number of each unbroken stretch, settled and missing by turns, from the highest down. A number is
+-- settled when nothing more is waited for: it was recorded.
 use Prim.Native.Nat.{ℕ, _+_, _-_, _*_, _/_, _%_}
 use mathlib.Core.Bool.{Bool, true, cond, _&&_}
 use mathlib.Core.List.{List, [], _∷_, _++_}
@@ -19,22 +20,22 @@ abbrev pub endsFrom : ℕ → List ℕ → ℕ
 endsFrom n [] = 0
 endsFrom n (e ∷ es) = cond (leb n e) 1 0 + endsFrom n es
 
--- a number stands in a heard stretch when that count is odd
-abbrev pub heardAt : List ℕ → ℕ → Bool
-heardAt es n = eqb (endsFrom n es % 2) 1
+-- a number stands in a settled stretch when that count is odd
+abbrev pub settledAt : List ℕ → ℕ → Bool
+settledAt es n = eqb (endsFrom n es % 2) 1
 
 -- the first end is the highest number
 abbrev pub highestIn : List ℕ → ℕ
 highestIn es = getD es 0 0
 
--- what is heard up to the first end: all, less what is missing; that is all up to the next end, less what is heard there; and so on
-abbrev pub heardIn : List ℕ → ℕ
-heardIn [] = 0
-heardIn (e ∷ es) = e - heardIn es
+-- what is settled up to the first end: all, less what is missing; that is all up to the next end, less what is settled there; and so on
+abbrev pub settledIn : List ℕ → ℕ
+settledIn [] = 0
+settledIn (e ∷ es) = e - settledIn es
 
 -- the others up to the highest
 abbrev pub missingIn : List ℕ → ℕ
-missingIn es = highestIn es - heardIn es
+missingIn es = highestIn es - settledIn es
 
 -- a missing run has two ends, its own and that of the stretch below, which is 0 for a run from 1
 abbrev pub runsIn : List ℕ → ℕ

@@ -2,8 +2,8 @@
 ghost use mathlib.Core.Path.{_≡_};
 ghost use Rattle.ledger.specs.Calls.{fresh};
 
-// The numbers from 1 to the highest fall into unbroken stretches, heard and missing by turns. From the top down, the last
-// number of each stretch, first the highest, which ends a heard one; then zeros. 64 missing runs take 129 places.
+// The numbers from 1 to the highest fall into unbroken stretches, settled and missing by turns. From the top down, the last
+// number of each stretch, first the highest, which ends a settled one; then zeros. 64 missing runs take 129 places.
 pub struct Ledger {
     pub ends: [u32; 129],
 }

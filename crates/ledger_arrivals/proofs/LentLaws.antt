@@ -7,10 +7,10 @@ use mathlib.Core.List.{List}
 use lib.ListN.{length}
 use lib.Dec.{ltb, eqb}
 use borrow.Author.Tests.{eqb-true, eqb-false, ltb-false, eq-eqb}
-use Rattle.ledger.specs.Ends.{places, falling, endsFrom, heardAt, runsIn, withNumber, fitted}
+use Rattle.ledger.specs.Ends.{places, falling, endsFrom, settledAt, runsIn, withNumber, fitted}
 use Rattle.ledger.specs.Calls.{mostNumber, mostRuns, valid, stays, withEnds, arrivedOf, lentArrivedOf}
 use Rattle.ledger.specs.declared.Arrival.{Arrival}
-use Rattle.ledger.proofs.EndLaws.{from-length, odd-heard, even-missing}
+use Rattle.ledger.proofs.EndLaws.{from-length, odd-settled, even-missing}
 use Rattle.ledger.proofs.ArriveLaws.{valid-is, arrive-damaged, arrive-outside, arrive-repeat, arrive-full, arrive-new}
 use Rattle.ledger_ends.specs.Looking.{seenOf}
 use Rattle.ledger_ends.specs.declared.Seen.{Seen}
@@ -31,7 +31,7 @@ inside-bounds n = go (eqb n 0) refl (ltb mostNumber n) refl
     go false p true q h = let z : _≡_ {A = ℕ} 0 1 = cc in absurd (omega arith)
 
 -- what taking the run of one number leads to is the arrival's answer
-arrive-taken : (es : List ℕ) (n : ℕ) → valid (withEnds es) ≡ true → 1 ≤ n → n ≤ mostNumber → heardAt es n ≡ false
+arrive-taken : (es : List ℕ) (n : ℕ) → valid (withEnds es) ≡ true → 1 ≤ n → n ≤ mostNumber → settledAt es n ≡ false
     → record { ledger = withEnds (takenEnds (withNumber n es) es); answer = takenAnswer (withNumber n es) } ≡ arrivedOf (withEnds es) n
 arrive-taken es n ok lo hi miss = go (ltb mostRuns (runsIn (withNumber n es))) refl
   where
@@ -40,7 +40,7 @@ arrive-taken es n ok lo hi miss = go (ltb mostRuns (runsIn (withNumber n es))) r
     go true p = arrive-full (withEnds es) n ok lo hi miss p
     go false p = arrive-new (withEnds es) n ok lo hi miss p
 
-arrive-left : (es left : List ℕ) (r : Arrival) (n : ℕ) → valid (withEnds es) ≡ true → 1 ≤ n → n ≤ mostNumber → heardAt es n ≡ false
+arrive-left : (es left : List ℕ) (r : Arrival) (n : ℕ) → valid (withEnds es) ≡ true → 1 ≤ n → n ≤ mostNumber → settledAt es n ≡ false
     → r ≡ takenAnswer (withNumber n es) → left ≡ takenEnds (withNumber n es) es → record { ledger = withEnds left; answer = r } ≡ arrivedOf (withEnds es) n
 arrive-left es left r n ok lo hi miss p q = rw (p, q) (arrive-taken es n ok lo hi miss)
 
@@ -83,7 +83,7 @@ module _ (n : ℕ) (es : List ℕ) (s : Seen) (seen : s ≡ seenOf n es) where
 
     module _ (lo : 1 ≤ n) (hi : n ≤ mostNumber) where
       pub lent-repeat : s .from % 2 ≡ 1 → stays (withEnds es) Arrival.Repeat ≡ lentArrivedOf es n
-      lent-repeat odd = arrive-repeat (withEnds es) n ok lo hi (odd-heard es n (omega (arith, count))) ∙ sym (lent-whole es n whole)
+      lent-repeat odd = arrive-repeat (withEnds es) n ok lo hi (odd-settled es n (omega (arith, count))) ∙ sym (lent-whole es n whole)
 
       -- a missing number is a run that can be taken
       pub lent-missing : s .from % 2 ≡ 0 → NoneBetween (s .from) (n - 1) n es

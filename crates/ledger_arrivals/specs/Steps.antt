@@ -24,7 +24,7 @@ pub record NoneBetween (at before last : ℕ) (es : List ℕ) : Type 0 where
   pub none-between : endsFrom (before + 1) es ≡ at
   pub in-order : before < last
 
--- nor at either: no heard stretch begins behind the upper one or ends with the lower one
+-- nor at either: no settled stretch begins behind the upper one or ends with the lower one
 pub record Alone (at before last : ℕ) (es : List ℕ) : Type 0 where
   pub between : NoneBetween at before last es
   pub apart-above : 0 < at → getD es (at - 1) 0 ≡ last → ⊥

@@ -22,7 +22,7 @@ fn shorten(ends: &mut [u32], at: usize, before: u32) -> Arrival
     Arrival::New
 }
 
-// A run that meets no heard stretch: two ends more, if there is room for them.
+// A run that meets no settled stretch: two ends more, if there is room for them.
 fn stand_alone(ends: &mut [u32], at: usize, before: u32, last: u32) -> Arrival
     requires { ⌜ Alone at before last (now ends) ⌝ }
     ensures { λ r. ⌜ r ≡ takenAnswer (withRun before last (now (ends .entry))) ⌝ }

@@ -9,7 +9,7 @@ use mathlib.Core.List.{List, [], _∷_}
 use lib.ListN.{length, getD, drop, drop-of-length-le}
 use lib.Seq.{drop-cons, drop-length}
 use lib.Dec.{leb, eqb, eqb·suc-zero}
-use Rattle.ledger.specs.Ends.{falling, endsFrom, heardIn, missingIn}
+use Rattle.ledger.specs.Ends.{falling, endsFrom, settledIn, missingIn}
 
 pub at-drop : (l : List ℕ) (i : ℕ) → i < length l → drop i l ≡ getD l i 0 ∷ drop (i + 1) l
 at-drop l i h = rw add-one (drop-cons l i 0 h)
@@ -46,15 +46,15 @@ counts-ends from n i es h inv =
     let so : from + 0 ≡ endsFrom n es = rw none at inv in
     omega arith
 
--- heard from a place on
-pub heard-on : (heard i j : ℕ) (es : List ℕ) → j < length es → i ≡ j + 1 → heard ≡ heardIn (drop i es) → getD es j 0 - heard ≡ heardIn (drop j es)
-heard-on heard i j es h q inv = rw (inv, q, at-drop es j h) refl
+-- settled from a place on
+pub settled-on : (settled i j : ℕ) (es : List ℕ) → j < length es → i ≡ j + 1 → settled ≡ settledIn (drop i es) → getD es j 0 - settled ≡ settledIn (drop j es)
+settled-on settled i j es h q inv = rw (inv, q, at-drop es j h) refl
 
-pub heard-starts : (es : List ℕ) → 0 ≡ heardIn (drop (length es) es)
-heard-starts es = rw drop-length refl
+pub settled-starts : (es : List ℕ) → 0 ≡ settledIn (drop (length es) es)
+settled-starts es = rw drop-length refl
 
-pub heard-ends : (heard i : ℕ) (es : List ℕ) → i ≡ 0 → heard ≡ heardIn (drop i es) → heard ≡ heardIn es
-heard-ends heard i es q inv = rw q at inv
+pub settled-ends : (settled i : ℕ) (es : List ℕ) → i ≡ 0 → settled ≡ settledIn (drop i es) → settled ≡ settledIn es
+settled-ends settled i es q inv = rw q at inv
 
 -- of no ends none is missing
 pub none-missing : (es : List ℕ) → length es ≡ 0 → 0 ≡ missingIn es

@@ -4,7 +4,7 @@ ghost use mathlib.Core.Bool.{cond};
 ghost use Prim.Native.Nat.{_-_, _≤_};
 ghost use lib.Dec.{leb, eqb};
 ghost use lib.ListN.{length, drop};
-ghost use Rattle.ledger.specs.Ends.{places, endsFrom, heardIn, missingIn};
+ghost use Rattle.ledger.specs.Ends.{places, endsFrom, settledIn, missingIn};
 ghost use Rattle.ledger_ends.specs.Looking.{foundIn, seenOf};
 
 // Every end lies below this: no number that may arrive is as high.
@@ -118,17 +118,17 @@ fn less(a: u32, b: u32) -> u32
     if b <= a { a - b } else { 0 }
 }
 
-// How many numbers are heard, from the lowest stretch up.
-pub fn heard_in(ends: &[u32]) -> u32
-    ensures { λ r. ⌜ r ≡ heardIn (now (ends .entry)) ⌝ }
+// How many numbers are settled, from the lowest stretch up.
+pub fn settled_in(ends: &[u32]) -> u32
+    ensures { λ r. ⌜ r ≡ settledIn (now (ends .entry)) ⌝ }
 {
-    let mut heard: u32 = 0;
+    let mut settled: u32 = 0;
     let mut i = ends.len();
     while 0 < i {
         i -= 1;
-        heard = less(ends[i], heard);
+        settled = less(ends[i], settled);
     }
-    heard
+    settled
 }
 
 // How many are not, up to the highest.
@@ -138,6 +138,6 @@ pub fn missing_in(ends: &[u32]) -> u32
     if ends.len() == 0 {
         return 0;
     }
-    let heard = heard_in(ends);
-    less(ends[0], heard)
+    let settled = settled_in(ends);
+    less(ends[0], settled)
 }

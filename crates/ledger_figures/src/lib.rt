@@ -5,9 +5,9 @@ use ledger::Figure;
 use ledger::Ledger;
 use ledger::RunAt;
 use ledger_ends::Seen;
-use ledger_ends::heard_in;
 use ledger_ends::look;
 use ledger_ends::missing_in;
+use ledger_ends::settled_in;
 
 // A figure of a record that was looked over.
 fn figure(seen: Seen, n: u32) -> Figure
@@ -30,7 +30,7 @@ pub fn highest(ledger: Ledger) -> Figure
 pub fn heard(ledger: Ledger) -> Figure
     ensures { λ r. ⌜ r ≡ heardOf ledger ⌝ }
 {
-    figure(look(1, &ledger.ends), heard_in(&ledger.ends))
+    figure(look(1, &ledger.ends), settled_in(&ledger.ends))
 }
 
 // How many numbers below the highest are not.

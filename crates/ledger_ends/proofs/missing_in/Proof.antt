@@ -8,8 +8,8 @@ use Rattle.ledger_ends.proofs.missing_in.Tie as tie
 returns : tie.Need-returns
 returns c = none-missing (c .before .before .args .ends .now) (omega (arith, c .if1 .taken))
 
-heard-in-requires : tie.Need-heard-in-requires
-heard-in-requires c κs = search needs
+settled-in-requires : tie.Need-settled-in-requires
+settled-in-requires c κs = search needs
 
 shared-slice-read-less : tie.Need-shared-slice-read-less
 shared-slice-read-less c = search needs
@@ -22,4 +22,4 @@ returns-2 c = search needs
 
 pub missing-in-spec : {M : Type 1} → statement M
 missing-in-spec =
-    tie.close (tie.spec returns heard-in-requires shared-slice-read-less less-requires returns-2)
+    tie.close (tie.spec returns settled-in-requires shared-slice-read-less less-requires returns-2)
