@@ -70,7 +70,7 @@ ends-all f top y hi lo = ends-hold f top y lo ∙ go (leb y top) refl
     go false p = sym (hi .none-above y (leb-false y top p))
 
 -- the count of starting runs is the number of longest runs, whatever the set
-pub runs-counted : (f : ℕ → Bool) (top : ℕ) → Highest f top → HasRuns f top (runsTo f top)
+pub runs-counted : (f : ℕ → Bool) (top : ℕ) → Highest f top → HasRuns f 0 top (runsTo f top)
 runs-counted f top hi =
     let es = endsOf f top in
     let is : TrueOf f (highestIn es) (settledIn es) (missingIn es) (runsIn es) (firstOf es) (lastOf es) =
@@ -81,10 +81,10 @@ runs-counted f top hi =
     record {
       first = firstOf es;
       last = lastOf es;
-      are-runs = subst (λ (r : ℕ). RunsOf f top r (firstOf es) (lastOf es)) runs
-          (subst (λ (t : ℕ). RunsOf f t (runsIn es) (firstOf es) (lastOf es)) highest (is .are-runs));
+      are-runs = subst (λ (r : ℕ). RunsOf f 0 top r (firstOf es) (lastOf es)) runs
+          (subst (λ (t : ℕ). RunsOf f 0 t (runsIn es) (firstOf es) (lastOf es)) highest (is .are-runs));
     }
 
 -- so 22 counts the longest missing runs that recording a number would leave
-pub rule-counts : (f : ℕ → Bool) (n top : ℕ) → 1 ≤ n → Highest f top → HasRuns (with n f) (max n top) (runsTo (with n f) (max n top))
+pub rule-counts : (f : ℕ → Bool) (n top : ℕ) → 1 ≤ n → Highest f top → HasRuns (with n f) 0 (max n top) (runsTo (with n f) (max n top))
 rule-counts f n top lo hi = runs-counted (with n f) (max n top) (with-highest f n top lo hi)

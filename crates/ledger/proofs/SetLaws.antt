@@ -99,19 +99,19 @@ module _ (f g : ℕ → Bool) (same : (y : ℕ) → 1 ≤ y → f y ≡ g y) whe
       go true p h = ⊎-elim (λ (q : top ≡ 0). inl q) (λ (q : f top ≡ true). inr (sym (same top (leb-true 1 top p)) ∙ q)) h
       go false p h = inl (omega (arith, leb-false 1 top p))
 
-  pub longest-same : (top first last : ℕ) → Longest f top first last → Longest g top first last
-  longest-same top first last run = record {
-    from-one = run .from-one;
+  pub longest-same : (floor top first last : ℕ) → Longest f floor top first last → Longest g floor top first last
+  longest-same floor top first last run = record {
+    above-floor = run .above-floor;
     in-order = run .in-order;
     to-highest = run .to-highest;
-    missing = λ (y : ℕ) (lo : first ≤ y) (hi : y ≤ last). sym (same y (omega (arith, run .from-one))) ∙ run .missing y lo hi;
+    missing = λ (y : ℕ) (lo : first ≤ y) (hi : y ≤ last). sym (same y (omega (arith, run .above-floor))) ∙ run .missing y lo hi;
     none-below = go (leb 2 first) refl (run .none-below);
     none-behind = ⊎-elim (λ (q : last ≡ top). inl q) (λ (q : f (last + 1) ≡ true). inr (sym (same (last + 1) (omega arith)) ∙ q)) (run .none-behind);
   }
     where
-      go : (t : Bool) → leb 2 first ≡ t → (first ≡ 1) ⊎ (f (first - 1) ≡ true) → (first ≡ 1) ⊎ (g (first - 1) ≡ true)
-      go true p h = ⊎-elim (λ (q : first ≡ 1). inl q) (λ (q : f (first - 1) ≡ true). inr (sym (same (first - 1) (omega (arith, leb-true 2 first p))) ∙ q)) h
-      go false p h = inl (omega (arith, leb-false 2 first p, run .from-one))
+      go : (t : Bool) → leb 2 first ≡ t → (first ≡ floor + 1) ⊎ (f (first - 1) ≡ true) → (first ≡ floor + 1) ⊎ (g (first - 1) ≡ true)
+      go true p h = ⊎-elim (λ (q : first ≡ floor + 1). inl q) (λ (q : f (first - 1) ≡ true). inr (sym (same (first - 1) (omega (arith, leb-true 2 first p))) ∙ q)) h
+      go false p h = inl (omega (arith, leb-false 2 first p, run .above-floor))
 
 pub true-same : (f g : ℕ → Bool) → ((y : ℕ) → 1 ≤ y → f y ≡ g y) → (highest heard missing runs : ℕ) (first last : ℕ → ℕ)
     → TrueOf f highest heard missing runs first last → TrueOf g highest heard missing runs first last
@@ -121,10 +121,10 @@ true-same f g same highest heard missing runs first last t = record {
   adds-up = t .adds-up;
   is-runs = t .is-runs ∙ runs-same f g highest (λ (y : ℕ) (lo : 1 ≤ y) (hi : y ≤ highest). same y lo);
   are-runs = record {
-    each-longest = λ (k : ℕ) (lt : k < runs). longest-same f g same highest (first k) (last k) (t .are-runs .each-longest k lt);
+    each-longest = λ (k : ℕ) (lt : k < runs). longest-same f g same 0 highest (first k) (last k) (t .are-runs .each-longest k lt);
     rising = t .are-runs .rising;
-    every-longest = λ (a b : ℕ) (run : Longest g highest a b).
-        t .are-runs .every-longest a b (longest-same g f (λ (y : ℕ) (lo : 1 ≤ y). sym (same y lo)) highest a b run);
+    every-longest = λ (a b : ℕ) (run : Longest g 0 highest a b).
+        t .are-runs .every-longest a b (longest-same g f (λ (y : ℕ) (lo : 1 ≤ y). sym (same y lo)) 0 highest a b run);
   };
 }
 

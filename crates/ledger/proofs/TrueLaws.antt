@@ -73,14 +73,14 @@ ends-runs b (suc m ∷ es) h =
 
 -- the two ends of a missing run: its own, and that of the stretch below
 pub ends-longest : (b : ℕ) (es : List ℕ) (r : ℕ) → falling b es ≡ true → 1 ≤ getD es (suc (2 * r)) 0
-    → Longest (settledAt es) (highestIn es) (getD es (suc (suc (2 * r))) 0 + 1) (getD es (suc (2 * r)) 0)
+    → Longest (settledAt es) 0 (highestIn es) (getD es (suc (suc (2 * r))) 0 + 1) (getD es (suc (2 * r)) 0)
 ends-longest b es r h one =
     let x = getD es (suc (suc (2 * r))) 0 in
     let z = getD es (suc (2 * r)) 0 in
     let lower : x ≤ z - 1 = falls-next b es (suc (2 * r)) h in
     let upper : z ≤ getD es (2 * r) 0 - 1 = falls-next b es (2 * r) h in
     record {
-      from-one = omega arith;
+      above-floor = omega arith;
       in-order = omega arith;
       to-highest = falls-far b es 0 (suc (2 * r)) h (omega arith);
       missing = λ (y : ℕ) (lo : x + 1 ≤ y) (hi : y ≤ z). even-missing es y (omega (arith, from-between b y es (suc (2 * r)) h hi (omega arith)));
@@ -89,7 +89,7 @@ ends-longest b es r h one =
     }
   where
     go : (t : Bool) → leb 1 (getD es (suc (suc (2 * r))) 0) ≡ t
-        → (getD es (suc (suc (2 * r))) 0 + 1 ≡ 1) ⊎ (settledAt es (getD es (suc (suc (2 * r))) 0 + 1 - 1) ≡ true)
+        → (getD es (suc (suc (2 * r))) 0 + 1 ≡ 0 + 1) ⊎ (settledAt es (getD es (suc (suc (2 * r))) 0 + 1 - 1) ≡ true)
     go true p =
         let x = getD es (suc (suc (2 * r))) 0 in
         let lo : 1 ≤ x = leb-true 1 x p in
@@ -98,21 +98,21 @@ ends-longest b es r h one =
     go false p = inl (omega (arith, leb-false 1 (getD es (suc (suc (2 * r))) 0) p))
 
 -- every longest missing run stands at some pair of ends
-pub longest-found : (b : ℕ) (es : List ℕ) (first last : ℕ) → falling b es ≡ true → Longest (settledAt es) (highestIn es) first last
+pub longest-found : (b : ℕ) (es : List ℕ) (first last : ℕ) → falling b es ≡ true → Longest (settledAt es) 0 (highestIn es) first last
     → (r : ℕ) × (1 ≤ getD es (suc (2 * r)) 0) × (getD es (suc (suc (2 * r))) 0 + 1 ≡ first) × (getD es (suc (2 * r)) 0 ≡ last)
 longest-found b es first last h run =
     let i = endsFrom first es in
     let r = i / 2 - 1 in
     let even : i % 2 ≡ 0 = missing-even es first (run .missing first (omega arith) (run .in-order)) in
-    let some : 0 < i = from-above b first es 0 h (run .from-one) (omega (arith, run .in-order, run .to-highest)) in
+    let some : 0 < i = from-above b first es 0 h (run .above-floor) (omega (arith, run .in-order, run .to-highest)) in
     let place : i ≡ suc (suc (2 * r)) = omega arith in
     let z = getD es (suc (2 * r)) 0 in
     let x = getD es (suc (suc (2 * r))) 0 in
-    let up : first ≤ z = from-below b first es (suc (2 * r)) h (run .from-one) (omega arith) in
-    let one : 1 ≤ z = omega (arith, run .from-one) in
+    let up : first ≤ z = from-below b first es (suc (2 * r)) h (run .above-floor) (omega arith) in
+    let one : 1 ≤ z = omega (arith, run .above-floor) in
     let whole = ends-longest b es r h one in
     let down : x < first = lower r place in
-    let is-first : x + 1 ≡ first = ⊎-elim (λ (q : first ≡ 1). omega arith) (λ (q : settledAt es (first - 1) ≡ true). starts r up down q) (run .none-below) in
+    let is-first : x + 1 ≡ first = ⊎-elim (λ (q : first ≡ 0 + 1). omega arith) (λ (q : settledAt es (first - 1) ≡ true). starts r up down q) (run .none-below) in
     let not-over : last ≤ z = not-behind r one up in
     let not-under : z ≤ last = ⊎-elim (λ (q : last ≡ highestIn es). omega (arith, whole .to-highest)) (λ (q : settledAt es (last + 1) ≡ true). reaches r one down q) (run .none-behind) in
     (r, one, is-first, omega arith)
@@ -121,7 +121,7 @@ longest-found b es first last h run =
     lower r q = go (leb first (getD es (suc (suc (2 * r))) 0)) refl
       where
         go : (t : Bool) → leb first (getD es (suc (suc (2 * r))) 0) ≡ t → getD es (suc (suc (2 * r))) 0 < first
-        go true p = absurd (omega (arith, from-above b first es (suc (suc (2 * r))) h (run .from-one) (leb-true first (getD es (suc (suc (2 * r))) 0) p)))
+        go true p = absurd (omega (arith, from-above b first es (suc (suc (2 * r))) h (run .above-floor) (leb-true first (getD es (suc (suc (2 * r))) 0) p)))
         go false p = leb-false first (getD es (suc (suc (2 * r))) 0) p
 
     starts : (r : ℕ) → first ≤ getD es (suc (2 * r)) 0 → getD es (suc (suc (2 * r))) 0 < first → settledAt es (first - 1) ≡ true → getD es (suc (suc (2 * r))) 0 + 1 ≡ first
@@ -166,7 +166,7 @@ ends-true b es h = record {
   are-runs = record { each-longest = each; rising = rise; every-longest = every };
 }
   where
-    each : (k : ℕ) → k < runsIn es → Longest (settledAt es) (highestIn es) (firstOf es k) (lastOf es k)
+    each : (k : ℕ) → k < runsIn es → Longest (settledAt es) 0 (highestIn es) (firstOf es k) (lastOf es k)
     each k lt =
         let r = runsIn es - k - 1 in
         let q : 2 * (runsIn es - k) ≡ suc (suc (2 * r)) = omega arith in
@@ -176,7 +176,7 @@ ends-true b es h = record {
     rise : (j k : ℕ) → j < k → k < runsIn es → lastOf es j < firstOf es k
     rise j k lt hi = omega (arith, falls-far b es (2 * (runsIn es - k)) (2 * (runsIn es - j) - 1) h (omega arith))
 
-    every : (a c : ℕ) → Longest (settledAt es) (highestIn es) a c → (k : ℕ) × (k < runsIn es) × (firstOf es k ≡ a) × (lastOf es k ≡ c)
+    every : (a c : ℕ) → Longest (settledAt es) 0 (highestIn es) a c → (k : ℕ) × (k < runsIn es) × (firstOf es k ≡ a) × (lastOf es k ≡ c)
     every a c run =
         let found = longest-found b es a c h run in
         let r = found .0 in

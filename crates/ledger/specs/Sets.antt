@@ -27,26 +27,26 @@ pub record Highest (f : ℕ → Bool) (top : ℕ) : Type 0 where
   pub there : (top ≡ 0) ⊎ (f top ≡ true)
   pub none-above : (y : ℕ) → top < y → f y ≡ false
 
--- a longest unbroken run of numbers from 1 to the highest that are not in the set
-pub record Longest (f : ℕ → Bool) (top first last : ℕ) : Type 0 where
-  pub from-one : 1 ≤ first
+-- a longest unbroken run of numbers above a floor, up to the highest, that are not in the set
+pub record Longest (f : ℕ → Bool) (floor top first last : ℕ) : Type 0 where
+  pub above-floor : floor < first
   pub in-order : first ≤ last
   pub to-highest : last ≤ top
   pub missing : (y : ℕ) → first ≤ y → y ≤ last → f y ≡ false
-  pub none-below : (first ≡ 1) ⊎ (f (first - 1) ≡ true)
+  pub none-below : (first ≡ floor + 1) ⊎ (f (first - 1) ≡ true)
   pub none-behind : (last ≡ top) ⊎ (f (last + 1) ≡ true)
 
--- runs that are the longest ones of a set, each at one place, rising by their place
-pub record RunsOf (f : ℕ → Bool) (top runs : ℕ) (first last : ℕ → ℕ) : Type 0 where
-  pub each-longest : (k : ℕ) → k < runs → Longest f top (first k) (last k)
+-- runs that are the longest ones of a set above a floor, each at one place, rising by their place
+pub record RunsOf (f : ℕ → Bool) (floor top runs : ℕ) (first last : ℕ → ℕ) : Type 0 where
+  pub each-longest : (k : ℕ) → k < runs → Longest f floor top (first k) (last k)
   pub rising : (j k : ℕ) → j < k → k < runs → last j < first k
-  pub every-longest : (a b : ℕ) → Longest f top a b → (k : ℕ) × (k < runs) × (first k ≡ a) × (last k ≡ b)
+  pub every-longest : (a b : ℕ) → Longest f floor top a b → (k : ℕ) × (k < runs) × (first k ≡ a) × (last k ≡ b)
 
--- a set has so many longest missing runs
-pub record HasRuns (f : ℕ → Bool) (top runs : ℕ) : Type 0 where
+-- a set has so many longest missing runs above a floor
+pub record HasRuns (f : ℕ → Bool) (floor top runs : ℕ) : Type 0 where
   pub first : ℕ → ℕ
   pub last : ℕ → ℕ
-  pub are-runs : RunsOf f top runs first last
+  pub are-runs : RunsOf f floor top runs first last
 
 -- figures and runs that are those of a set
 pub record TrueOf (f : ℕ → Bool) (highest heard missing runs : ℕ) (first last : ℕ → ℕ) : Type 0 where
@@ -54,4 +54,4 @@ pub record TrueOf (f : ℕ → Bool) (highest heard missing runs : ℕ) (first l
   pub is-heard : heard ≡ countTo f highest
   pub adds-up : heard + missing ≡ highest
   pub is-runs : runs ≡ runsTo f highest
-  pub are-runs : RunsOf f highest runs first last
+  pub are-runs : RunsOf f 0 highest runs first last
