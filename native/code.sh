@@ -78,10 +78,9 @@ make_program() {
     if [ "$machine" != x86_64 ] && ! emulated && command -v cc >/dev/null; then program_of_modules; else program_with_loader; fi
 }
 
-# status.c, to be linked beside the program's own objects
-status_object() { # MACHINE
-    compiled "$tools/bin/clang" --target="$1-unknown-linux-gnu" --no-default-config -O2 -fPIE \
-        -c "$here/native/status.c" -o "$work/status.o"
+# C code of this folder, to be linked beside the program's own objects
+c_object() { # MACHINE NAME
+    compiled "$tools/bin/clang" --target="$1-unknown-linux-gnu" --no-default-config -O2 -fPIE -c "$here/native/$2.c" -o "$work/$2.o"
 }
 
 # The modules are kept with rt's stamp of the sources that they were made of: while it stays the same there is nothing to prove.
@@ -95,7 +94,8 @@ program_of_modules() {
             fail 3 "cannot write $kept"
     fi
     objects -fPIE "$kept"
-    status_object "$machine"
+    c_object "$machine" status
+    c_object "$machine" arguments
     compiled cc -o "$work/made" "$work"/*.o
 }
 
@@ -103,7 +103,7 @@ program_of_modules() {
 program_with_loader() {
     [ -f "$here/target/obj/$crate.o" ] || rm -f "$here/target/stamp/$crate" # else rt would not compile it again
     proved rt check "$crate"
-    status_object x86_64
+    c_object x86_64 status
     mkdir "$work/x86_64"
     compiled "$kit/on/$machine/bin/rattle-link" --target x86_64-unknown-linux-gnu --toolchain "$tools" -o "$work/x86_64/$name" \
         "$here/target/obj/$crate.o" "$work/status.o" "$kit/lib/libos_c.a"

@@ -22,8 +22,9 @@ count_anew
 # shellcheck disable=SC2031
 for path in "$work/bin" "$PATH"; do
     rm -rf "$tree/target"
-    expect 0 with_kit env PATH="$work/kit/bin:$path" "$tree/trivsome" echo 'a b' '' '*' -x "it's" >"$work/file" 2>"$work/said" </dev/null
-    printf '%s\n' one 'a b' '' '*' -x "it's" | cmp - "$work/file" || differs "arguments do not arrive: $(cat "$work/said")"
+    expect 0 with_kit env PATH="$work/kit/bin:$path" "$tree/trivsome" echo 'a b' '' '*' -x "it's" 8_bytes_ 9_bytes__ \
+        >"$work/file" 2>"$work/said" </dev/null
+    printf '%s\n' one 'a b' '' '*' -x "it's" 8_bytes_ '?' | cmp - "$work/file" || differs "arguments do not arrive: $(cat "$work/said")"
     expect 1 with_kit "$tree/trivsome" echo fail >"$work/file" 2>"$work/said"
     printf 'one\nfail\n' | cmp - "$work/said" || differs "what a program says on standard error is lost"
     [ "$path" = "$PATH" ] || cmp "$tree/native/start" "$tree/target/native/echo" || differs "without cc no x86-64 program is made"

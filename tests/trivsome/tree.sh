@@ -9,23 +9,26 @@ real=${RATTLE_HOME:-$(dirname "$(dirname "$(readlink -f "$(command -v rt)")")")}
 with_kit() { (RATTLE_HOME=$work/kit PATH=$work/kit/bin:$PATH && export RATTLE_HOME PATH && "$@"); }
 without_kit() { (unset RATTLE_HOME && PATH=$work/bin && export PATH && "$@"); }
 
-# program NAME WORD: a program that says the word and its arguments, a line each; with the argument fail, on standard error
+# program NAME WORD: a program that says the word and its arguments, a line each, and ? for one of more than eight bytes; with the
+# argument fail, on standard error. It asks for its arguments as a Rattle program does
 program() {
     mkdir -p "$tree/crates/program_$1/src"
     cat >"$work/source" <<END
 // Prints a word and its arguments. It is C.
 long write(int to, const void *bytes, unsigned long count);
-static void say(int to, const char *word) {
-    unsigned long n = 0;
-    while (word[n] != 0) n++;
-    write(to, word, n);
+unsigned long rattle_arg_count(void);
+long rattle_arg(unsigned long place, char *bytes, unsigned long room);
+static void say(int to, const char *word, long length) {
+    write(to, length < 0 ? "?" : word, length < 0 ? 1 : length);
     write(to, "\n", 1);
 }
-int main(int count, char **words) {
-    int to = count == 2 && words[1][0] == 'f' ? 2 : 1;
-    say(to, "$2");
-    for (int i = 1; i < count; i++) say(to, words[i]);
-    return 0;
+int main(void) {
+    char word[8];
+    unsigned long count = rattle_arg_count();
+    int to = count == 2 && rattle_arg(1, word, 8) == 4 && word[0] == 'f' ? 2 : 1;
+    say(to, "$2", sizeof "$2" - 1);
+    for (unsigned long i = 1; i < count; i++) say(to, word, rattle_arg(i, word, 8));
+    return rattle_arg(count, word, 8) != -1;
 }
 END
     mv "$work/source" "$tree/crates/program_$1/src/main.rt"
@@ -56,7 +59,7 @@ if ! cmp -s target/stamp.new "target/stamp/$crate"; then
     mv "target/$crate.module" "target/$crate.bc"
     "$tools/bin/clang" $words -x ir "target/$crate.bc" -o "target/obj/$crate.o" || exit 1
     "$RATTLE_HOME/on/$(uname -m)/bin/rattle-link" --target x86_64-unknown-linux-gnu --toolchain "$tools" -o "target/bin/$crate" \
-        "target/obj/$crate.o" || exit 1
+        "target/obj/$crate.o" "$RATTLE_HOME/lib/libos_c.a" || exit 1
     mv target/stamp.new "target/stamp/$crate"
     echo "$crate" >>compiled
     sleep "${SLOW:-0}"
