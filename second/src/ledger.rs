@@ -1,7 +1,8 @@
-//! The ledger of one format, line and day: which frame numbers were heard, and which runs below the highest are missing.
+//! The ledger of one format, line and day: which frame numbers were heard, which runs below the highest are missing, and up to
+//! which number, the floor, the missing ones were given up.
 //!
 //! The record is lent and its fields are open, so every call but clearing looks at the whole of it first: a record that no
-//! series of arrivals could have left answers 20.
+//! series of arrivals and give-ups could have left answers 20.
 
 pub const MOST_RUNS: usize = 64;
 pub const GREATEST_NUMBER: u32 = 99_999_999;
@@ -13,12 +14,23 @@ pub struct Run {
     pub last: u32,
 }
 
+impl Run {
+    /// How many numbers it has.
+    pub fn length(&self) -> u32 {
+        self.last - self.first + 1
+    }
+}
+
 #[derive(Clone, Copy, Debug, PartialEq, Eq)]
 pub struct Ledger {
     pub highest: u32,
     pub heard: u32,
+    /// No number up to it is taken any more; 0 until a run was given up.
+    pub floor: u32,
+    /// How many numbers up to the floor were never heard.
+    pub given_up: u32,
     pub count: usize,
-    /// The missing runs, lowest first; zero behind the count.
+    /// The missing runs above the floor, lowest first; zero behind the count.
     pub runs: [Run; MOST_RUNS],
 }
 
@@ -30,7 +42,7 @@ pub enum Arrival {
 
 #[derive(Clone, Copy, Debug, PartialEq, Eq)]
 pub enum Refusal {
-    /// No series of arrivals from fresh leaves this record.
+    /// No series of arrivals and give-ups from fresh leaves this record.
     Record = 20,
     /// The number is 0 or above 99,999,999.
     Number = 21,
@@ -38,6 +50,10 @@ pub enum Refusal {
     Full = 22,
     /// There is no missing run at the place.
     Place = 23,
+    /// There is no missing run to give up.
+    NoRun = 24,
+    /// The number is at or below the floor.
+    Floor = 25,
 }
 
 impl Refusal {
@@ -54,7 +70,8 @@ impl Default for Ledger {
 }
 
 impl Ledger {
-    pub const FRESH: Ledger = Ledger { highest: 0, heard: 0, count: 0, runs: [Run { first: 0, last: 0 }; MOST_RUNS] };
+    pub const FRESH: Ledger =
+        Ledger { highest: 0, heard: 0, floor: 0, given_up: 0, count: 0, runs: [Run { first: 0, last: 0 }; MOST_RUNS] };
 
     /// Makes the ledger fresh, whatever it holds.
     pub fn clear(&mut self) {
@@ -66,6 +83,9 @@ impl Ledger {
         self.check()?;
         if number == 0 || number > GREATEST_NUMBER {
             return Err(Refusal::Number);
+        }
+        if number <= self.floor {
+            return Err(Refusal::Floor);
         }
         if number > self.highest {
             let skipped = Run { first: self.highest + 1, last: number - 1 };
@@ -94,6 +114,16 @@ impl Ledger {
         Ok(Arrival::New)
     }
 
+    /// Gives the lowest missing run up, so that there is room for another, and tells which it was.
+    pub fn give_up(&mut self) -> Result<Run, Refusal> {
+        self.check()?;
+        let lowest = *self.missing_runs().first().ok_or(Refusal::NoRun)?;
+        self.remove(0);
+        self.floor = lowest.last;
+        self.given_up += lowest.length();
+        Ok(lowest)
+    }
+
     /// The highest number heard, or 0.
     pub fn highest(&self) -> Result<u32, Refusal> {
         self.check()?;
@@ -106,10 +136,22 @@ impl Ledger {
         Ok(self.heard)
     }
 
-    /// How many numbers below the highest were not heard.
+    /// How many numbers between the floor and the highest were not heard.
     pub fn missing(&self) -> Result<u32, Refusal> {
         self.check()?;
-        Ok(self.highest - self.heard)
+        Ok(self.highest - self.heard - self.given_up)
+    }
+
+    /// The last number that was given up, or 0.
+    pub fn floor(&self) -> Result<u32, Refusal> {
+        self.check()?;
+        Ok(self.floor)
+    }
+
+    /// How many numbers were given up.
+    pub fn given_up(&self) -> Result<u32, Refusal> {
+        self.check()?;
+        Ok(self.given_up)
     }
 
     /// How many missing runs there are.
@@ -124,7 +166,7 @@ impl Ledger {
         self.missing_runs().get(place).copied().ok_or(Refusal::Place)
     }
 
-    /// The whole record: 20 unless arrivals could have left it.
+    /// The whole record: 20 unless arrivals and give-ups could have left it.
     fn check(&self) -> Result<(), Refusal> {
         if self.is_possible() {
             Ok(())
@@ -134,21 +176,31 @@ impl Ledger {
     }
 
     fn is_possible(&self) -> bool {
-        if self.highest > GREATEST_NUMBER || self.count > MOST_RUNS {
+        if self.highest > GREATEST_NUMBER || self.count > MOST_RUNS || !self.is_floor_possible() {
             return false;
         }
         let (used, unused) = self.runs.split_at(self.count);
-        // Between two runs, and before the highest, at least one number was heard; below the first none has to be.
-        let mut least = 1;
+        // Between two runs, and before the highest, at least one number was heard, and so was the one above a floor; below the
+        // first run of a ledger without a floor none has to be.
+        let mut least = if self.floor == 0 { 1 } else { self.floor + 2 };
         let mut missing: u64 = 0;
         for run in used {
             if run.first < least || run.last < run.first || run.last >= self.highest {
                 return false;
             }
             least = run.last + 2;
-            missing += u64::from(run.last - run.first) + 1;
+            missing += u64::from(run.length());
         }
-        u64::from(self.heard) + missing == u64::from(self.highest) && unused.iter().all(|run| *run == Run::default())
+        let told = u64::from(self.heard) + missing + u64::from(self.given_up);
+        told == u64::from(self.highest) && unused.iter().all(|run| *run == Run::default())
+    }
+
+    /// Nothing was given up, or else the floor and perhaps more of the numbers below it, and a higher one was heard.
+    fn is_floor_possible(&self) -> bool {
+        match self.floor {
+            0 => self.given_up == 0,
+            floor => floor < self.highest && (1..=floor).contains(&self.given_up),
+        }
     }
 
     fn missing_runs(&self) -> &[Run] {

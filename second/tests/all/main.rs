@@ -9,6 +9,7 @@ mod generating;
 mod ledger;
 mod listing;
 mod messages;
+mod model;
 mod numbers;
 mod reading;
 mod walking;
