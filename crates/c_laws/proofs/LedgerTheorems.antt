@@ -7,18 +7,20 @@ use lib.Dec.{eqb, ltb}
 use borrow.Author.Tests.{eqb-true, eqb-false, ne-eqb, ltb-false}
 use Rattle.digits.proofs.Bools.{no-false}
 use Rattle.ledger.specs.Sets.{with, countTo}
-use Rattle.ledger.specs.Ends.{falling, settledAt, highestIn, settledIn, firstOf, lastOf, runsIn, turned, withNumber, fitted}
-use Rattle.ledger.specs.Calls.{mostNumber, mostRuns, arrivalNumber, figureNumber, runNumber, valid, arrivedOf, figureBy, figureOf, runOf}
+use Rattle.ledger.specs.Ends.{falling, settledAt, highestIn, settledIn, firstOf, lastOf, runsIn, turned, withNumber, floorFits, fitted}
+use Rattle.ledger.specs.Calls.{mostNumber, mostRuns, arrivalNumber, figureNumber, runNumber, valid, arrivedOf, gaveUpOf, figureBy, figureOf, runOf}
 use Rattle.ledger.specs.declared.Ledger.{Ledger}
 use Rattle.ledger.specs.declared.Arrival.{Arrival}
 use Rattle.ledger.specs.declared.Arrived.{Arrived}
 use Rattle.ledger.specs.declared.Figure.{Figure}
 use Rattle.ledger.specs.declared.RunAt.{RunAt}
-use Rattle.ledger.proofs.EndLaws.{falls-bound}
+use Rattle.ledger.specs.declared.GaveUp.{GaveUp}
+use Rattle.ledger.proofs.EndLaws.{both-left, falls-bound}
 use Rattle.ledger.proofs.SetLaws.{count-same}
 use Rattle.ledger.proofs.TrueLaws.{ends-settled}
 use Rattle.ledger.proofs.TurnLaws.{turn-falls, number-settled, fitted-falls, fitted-from}
-use Rattle.ledger.proofs.ArriveLaws.{valid-is, arrive-damaged, Arrives, outside, repeats, full, new, arrives}
+use Rattle.ledger.proofs.ArriveLaws.{valid-is, arrive-damaged, Arrives, outside, under, repeats, full, new, arrives}
+use Rattle.ledger.proofs.GiveUpLaws.{give-up-damaged, Gives, no-run, a-run, gives}
 use Rattle.c_outcomes.specs.Outcomes.{answerPart}
 use Rattle.c_ledger.specs.Outcomes.{arrivalOutcome, figureOutcome, runOutcome, firstPart, lastPart}
 
@@ -28,7 +30,7 @@ abovePart x = x / 256
 
 -- the ends of a valid ledger fall
 valid-falls : (l : Ledger) → valid l ≡ true → falling (mostNumber + 1) (l .ends) ≡ true
-valid-falls l v = valid-is (l .ends) ∙ v
+valid-falls l v = both-left (falling (mostNumber + 1) (l .ends)) (floorFits (l .floor) (l .given) (l .ends)) (valid-is l ∙ v)
 
 -- ---- arrivals
 -- how many numbers more are heard
@@ -41,16 +43,17 @@ heardMore (Arrival.Refused n) = 0
 abbrev pub arrivalIn : ℕ → Arrival
 arrivalIn x = cond (eqb (answerPart x) 0) (cond (eqb (abovePart x) 0) Arrival.Repeat Arrival.New) (Arrival.Refused (answerPart x))
 
--- what holds of the five answers holds of the answer to any arrival
-of-arrivals : (P : Arrival → Type 0) → P Arrival.New → P Arrival.Repeat → P (Arrival.Refused 20) → P (Arrival.Refused 21) → P (Arrival.Refused 22)
+-- what holds of the six answers holds of the answer to any arrival
+of-arrivals : (P : Arrival → Type 0) → P Arrival.New → P Arrival.Repeat → P (Arrival.Refused 20) → P (Arrival.Refused 21) → P (Arrival.Refused 22) → P (Arrival.Refused 25)
     → (l : Ledger) (n : ℕ) → P (arrivedOf l n .answer)
-of-arrivals P p q r s t l n = go (valid l) refl
+of-arrivals P p q r s t u l n = go (valid l) refl
   where
     by-case : (x : Arrived) → Arrives l n x → P (x .answer)
     by-case x (outside e) = s
-    by-case x (repeats lo hi e) = q
-    by-case x (full lo hi e f) = t
-    by-case x (new lo hi e f) = p
+    by-case x (under lo hi low) = u
+    by-case x (repeats lo hi above e) = q
+    by-case x (full lo hi above e f) = t
+    by-case x (new lo hi above e f) = p
 
     go : (v : Bool) → valid l ≡ v → P (arrivedOf l n .answer)
     go true v = by-case (arrivedOf l n) (arrives l n v)
@@ -58,14 +61,14 @@ of-arrivals P p q r s t l n = go (valid l) refl
 
 -- an arrival's outcome tells the answer
 pub arrival-back : (l : Ledger) (n : ℕ) → arrivalIn (arrivalOutcome (arrivedOf l n .answer)) ≡ arrivedOf l n .answer
-arrival-back = of-arrivals (λ a. arrivalIn (arrivalOutcome a) ≡ a) refl refl refl refl refl
+arrival-back = of-arrivals (λ a. arrivalIn (arrivalOutcome a) ≡ a) refl refl refl refl refl refl
 
 -- it has the answer's number, and how many numbers more are heard
 pub arrival-told : (l : Ledger) (n : ℕ) → let a = arrivedOf l n .answer in
     (answerPart (arrivalOutcome a) ≡ arrivalNumber a) × (abovePart (arrivalOutcome a) ≡ heardMore a)
 arrival-told =
     of-arrivals (λ a. (answerPart (arrivalOutcome a) ≡ arrivalNumber a) × (abovePart (arrivalOutcome a) ≡ heardMore a))
-    (refl, refl) (refl, refl) (refl, refl) (refl, refl) (refl, refl)
+    (refl, refl) (refl, refl) (refl, refl) (refl, refl) (refl, refl) (refl, refl)
 
 -- a number put into a set that it is not in makes one more
 count-with : (f : ℕ → Bool) (n k : ℕ) → 1 ≤ n → n ≤ k → f n ≡ false → countTo (with n f) k ≡ countTo f k + 1
@@ -79,7 +82,7 @@ count-with f n (suc k) lo hi miss = go (eqb (suc k) n) refl (f (suc k)) refl (λ
         omega (arith, count-same (with n f) f k (λ y one le. ap (λ (b : Bool). b || f y) (ne-eqb y n (λ e. omega (arith, e, eqb-true (suc k) n p)))))
     go false p t q ih = let apart : suc k ≡ n → ⊥ = eqb-false (suc k) n p in omega (arith, ih (omega arith))
 
--- so many more are then heard
+-- so many more are then settled
 pub arrival-grows : (l : Ledger) (n : ℕ) → settledIn (arrivedOf l n .ledger .ends) ≡ settledIn (l .ends) + heardMore (arrivedOf l n .answer)
 arrival-grows l n = go (valid l) refl
   where
@@ -101,9 +104,10 @@ arrival-grows l n = go (valid l) refl
 
     by-case : valid l ≡ true → (x : Arrived) → Arrives l n x → settledIn (x .ledger .ends) ≡ settledIn (l .ends) + heardMore (x .answer)
     by-case v x (outside e) = omega arith
-    by-case v x (repeats lo hi e) = omega arith
-    by-case v x (full lo hi e f) = omega arith
-    by-case v x (new lo hi e f) = grown (valid-falls l v) lo hi e f
+    by-case v x (under lo hi low) = omega arith
+    by-case v x (repeats lo hi above e) = omega arith
+    by-case v x (full lo hi above e f) = omega arith
+    by-case v x (new lo hi above e f) = grown (valid-falls l v) lo hi e f
 
     go : (v : Bool) → valid l ≡ v → settledIn (arrivedOf l n .ledger .ends) ≡ settledIn (l .ends) + heardMore (arrivedOf l n .answer)
     go true v = by-case v (arrivedOf l n) (arrives l n v)
@@ -114,7 +118,7 @@ arrival-grows l n = go (valid l) refl
 abbrev pub figureIn : ℕ → Figure
 figureIn x = cond (eqb (answerPart x) 0) (Figure.Is (abovePart x)) (Figure.Refused (answerPart x))
 
--- the outcome of a question for any figure of a ledger, as the highest, heard, missing or runs, tells the answer
+-- the outcome of a question for any figure of a ledger, as the highest, heard, missing, runs, floor or given up, tells the answer
 pub figure-back : (l : Ledger) (n : ℕ) → figureIn (figureOutcome (figureOf l n)) ≡ figureOf l n
 figure-back l n = go (valid l)
   where
@@ -152,22 +156,64 @@ of-runs P damaged none run l k = go (valid l) (ltb k (runsIn (l .ends))) refl
     go true false v = none
     go false u v = damaged
 
+-- and so of 24 in place of 23 of the answer to giving up
+of-givings : (P : RunAt → Type 0) → P (RunAt.Refused 20) → P (RunAt.Refused 24) → ((first last : ℕ) → first ≤ 100000000 → last ≤ 99999999 → P (RunAt.Run first last))
+    → (l : Ledger) → P (gaveUpOf l .answer)
+of-givings P damaged none run l = go (valid l) refl
+  where
+    by-case : valid l ≡ true → (x : GaveUp) → Gives l x → P (x .answer)
+    by-case v x (no-run e) = none
+    by-case v x (a-run e) =
+        run (firstOf (l .ends) 0) (lastOf (l .ends) 0)
+        (omega (arith, falls-bound (mostNumber + 1) (l .ends) (2 * (runsIn (l .ends) - 0)) (valid-falls l v)))
+        (omega (arith, falls-bound (mostNumber + 1) (l .ends) (2 * (runsIn (l .ends) - 0) - 1) (valid-falls l v)))
+
+    go : (v : Bool) → valid l ≡ v → P (gaveUpOf l .answer)
+    go true v = by-case v (gaveUpOf l) (gives l v)
+    go false v = subst (λ (x : GaveUp). P (x .answer)) (give-up-damaged l v) damaged
+
 -- the outcome of a question for a run has its first and its last number, and answer 0
 run-parts : (first last : ℕ) → first ≤ 100000000 → last ≤ 99999999 → let x = runOutcome (RunAt.Run first last) in
     (answerPart x ≡ 0) × (firstPart x ≡ first) × (lastPart x ≡ last)
 run-parts first last low high = (omega arith, omega arith, omega arith)
 
--- it tells the answer
+-- that an outcome tells the answer
+Back : RunAt → Type 0
+Back r = runIn (runOutcome r) ≡ r
+
+back-run : (first last : ℕ) → first ≤ 100000000 → last ≤ 99999999 → Back (RunAt.Run first last)
+unfolding Back
+back-run first last low high = let p = run-parts first last low high in λ i. cond (eqb (p .0 i) 0) (RunAt.Run (p .1 i) (p .2 i)) (RunAt.Refused (p .0 i))
+
+-- that it has the answer's number, and where there is a run its first and its last number
+Told : RunAt → Type 0
+Told r = (answerPart (runOutcome r) ≡ runNumber r) × ((first last : ℕ) → r ≡ RunAt.Run first last → (firstPart (runOutcome r) ≡ first) × (lastPart (runOutcome r) ≡ last))
+
+told-run : (first last : ℕ) → first ≤ 100000000 → last ≤ 99999999 → Told (RunAt.Run first last)
+unfolding Told
+told-run a z low high = let p = run-parts a z low high in (p .0, λ first last e. let f : a ≡ first = cc in let g : z ≡ last = cc in (p .1 ∙ f, p .2 ∙ g))
+
+told-refused : (n : ℕ) → answerPart n ≡ n → Told (RunAt.Refused n)
+unfolding Told
+told-refused n small = (small, λ first last e. let z : _≡_ {A = ℕ} 0 1 = cc in absurd (omega arith))
+
+-- the outcome of a question for a run tells the answer
 pub run-back : (l : Ledger) (k : ℕ) → runIn (runOutcome (runOf l k)) ≡ runOf l k
-run-back =
-    of-runs (λ r. runIn (runOutcome r) ≡ r) refl refl
-    (λ first last low high. let p = run-parts first last low high in λ i. cond (eqb (p .0 i) 0) (RunAt.Run (p .1 i) (p .2 i)) (RunAt.Refused (p .0 i)))
+unfolding Back
+run-back = of-runs Back refl refl back-run
 
 -- it has the answer's number, and where there is a run its first and its last number
 pub run-told : (l : Ledger) (k : ℕ) → let x = runOutcome (runOf l k) in
     (answerPart x ≡ runNumber (runOf l k)) × ((first last : ℕ) → runOf l k ≡ RunAt.Run first last → (firstPart x ≡ first) × (lastPart x ≡ last))
-run-told =
-    of-runs (λ r. (answerPart (runOutcome r) ≡ runNumber r) × ((first last : ℕ) → r ≡ RunAt.Run first last → (firstPart (runOutcome r) ≡ first) × (lastPart (runOutcome r) ≡ last)))
-    (refl, λ first last e. let z : _≡_ {A = ℕ} 0 1 = cc in absurd (omega arith))
-    (refl, λ first last e. let z : _≡_ {A = ℕ} 0 1 = cc in absurd (omega arith))
-    (λ a z low high. let p = run-parts a z low high in (p .0, λ first last e. let f : a ≡ first = cc in let g : z ≡ last = cc in (p .1 ∙ f, p .2 ∙ g)))
+unfolding Told
+run-told = of-runs Told (told-refused 20 refl) (told-refused 23 refl) told-run
+
+-- and so with the outcome of giving up
+pub give-up-back : (l : Ledger) → runIn (runOutcome (gaveUpOf l .answer)) ≡ gaveUpOf l .answer
+unfolding Back
+give-up-back = of-givings Back refl refl back-run
+
+pub give-up-told : (l : Ledger) → let r = gaveUpOf l .answer in
+    (answerPart (runOutcome r) ≡ runNumber r) × ((first last : ℕ) → r ≡ RunAt.Run first last → (firstPart (runOutcome r) ≡ first) × (lastPart (runOutcome r) ≡ last))
+unfolding Told
+give-up-told = of-givings Told (told-refused 20 refl) (told-refused 24 refl) told-run

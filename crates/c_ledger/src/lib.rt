@@ -1,17 +1,19 @@
-// Calls for C and Rust: the ledger, lent as its 129 ends.
+// Calls for C and Rust: the ledger, lent as its 129 ends, its floor and how many numbers were given up.
 ghost use mathlib.Core.Path.{_≡_};
-ghost use Rattle.ledger.specs.Calls.{fresh, withEnds, arrivedOf, highestOf, heardOf, missingOf, runsOf, runOf};
+ghost use Rattle.ledger.specs.Calls.{fresh, ledgerOf, arrivedOf, gaveUpOf, highestOf, heardOf, missingOf, runsOf, floorOf, givenUpOf, runOf};
 ghost use Rattle.c_ledger.specs.Outcomes.{arrivalOutcome, figureOutcome, runOutcome};
 use ledger::Arrival;
 use ledger::Figure;
 use ledger::Ledger;
 use ledger::RunAt;
 use ledger_arrivals::arrive_lent;
+use ledger_figures::given_up;
 use ledger_figures::heard;
 use ledger_figures::highest;
 use ledger_figures::missing;
 use ledger_figures::run;
 use ledger_figures::runs;
+use ledger_give_up::give_up_lent;
 
 // Of an arrival: above the answer stands how many numbers more are heard.
 fn arrival_outcome(arrival: Arrival) -> u64
@@ -47,57 +49,100 @@ fn run_outcome(run: RunAt) -> u64
 
 // The fresh ledger, for a new day.
 #[no_mangle]
-pub extern "C" fn trivsome_clear(ends: &mut [u32; 129])
-    ensures { λ _. ⌜ now (ends .exit) ≡ fresh .ends ⌝ }
+pub extern "C" fn trivsome_clear(ends: &mut [u32; 129], floor: &mut u32, given: &mut u32)
+    ensures { λ _. ⌜ ledgerOf (now (ends .exit)) (now (floor .exit)) (now (given .exit)) ≡ fresh ⌝ }
 {
     *ends = [0; 129];
+    *floor = 0;
+    *given = 0;
 }
 
-// The arrival of a number: new, repeat, 20, 21 or 22.
+// The arrival of a number: new, repeat, 20, 21, 22 or 25.
 #[no_mangle]
-pub extern "C" fn trivsome_arrive(ends: &mut [u32; 129], n: u32) -> u64
-    ensures { λ r. ⌜ r ≡ arrivalOutcome (arrivedOf (withEnds (now (ends .entry))) n .answer) ⌝ }
-    ensures { λ _. ⌜ now (ends .exit) ≡ arrivedOf (withEnds (now (ends .entry))) n .ledger .ends ⌝ }
+pub extern "C" fn trivsome_arrive(ends: &mut [u32; 129], floor: u32, given: u32, n: u32) -> u64
+    ensures { λ r. ⌜ r ≡ arrivalOutcome (arrivedOf (ledgerOf (now (ends .entry)) floor given) n .answer) ⌝ }
+    ensures { λ _. ⌜ now (ends .exit) ≡ arrivedOf (ledgerOf (now (ends .entry)) floor given) n .ledger .ends ⌝ }
 {
-    arrival_outcome(arrive_lent(ends, n))
+    arrival_outcome(arrive_lent(ends, floor, given, n))
+}
+
+// Gives the lowest missing run up: its first and its last number, 20 or 24.
+#[no_mangle]
+pub extern "C" fn trivsome_give_up(ends: &mut [u32; 129], floor: &mut u32, given: &mut u32) -> u64
+    ensures { λ r. ⌜ r ≡ runOutcome (gaveUpOf (ledgerOf (now (ends .entry)) (now (floor .entry)) (now (given .entry))) .answer) ⌝ }
+    ensures { λ _.
+        ⌜ ledgerOf (now (ends .exit)) (now (floor .exit)) (now (given .exit))
+        ≡ gaveUpOf (ledgerOf (now (ends .entry)) (now (floor .entry)) (now (given .entry))) .ledger ⌝ }
+{
+    run_outcome(give_up_lent(ends, floor, given))
 }
 
 // The highest number recorded.
 #[no_mangle]
-pub extern "C" fn trivsome_highest(ends: &[u32; 129]) -> u64
-    ensures { λ r. ⌜ r ≡ figureOutcome (highestOf (withEnds (now (ends .entry)))) ⌝ }
+pub extern "C" fn trivsome_highest(ends: &[u32; 129], floor: u32, given: u32) -> u64
+    ensures { λ r. ⌜ r ≡ figureOutcome (highestOf (ledgerOf (now (ends .entry)) floor given)) ⌝ }
 {
-    figure_outcome(highest(Ledger { ends: *ends }))
+    let ends = *ends;
+    let ledger = Ledger { ends, floor, given };
+    figure_outcome(highest(ledger))
 }
 
 // How many numbers are recorded.
 #[no_mangle]
-pub extern "C" fn trivsome_heard(ends: &[u32; 129]) -> u64
-    ensures { λ r. ⌜ r ≡ figureOutcome (heardOf (withEnds (now (ends .entry)))) ⌝ }
+pub extern "C" fn trivsome_heard(ends: &[u32; 129], floor: u32, given: u32) -> u64
+    ensures { λ r. ⌜ r ≡ figureOutcome (heardOf (ledgerOf (now (ends .entry)) floor given)) ⌝ }
 {
-    figure_outcome(heard(Ledger { ends: *ends }))
+    let ends = *ends;
+    let ledger = Ledger { ends, floor, given };
+    figure_outcome(heard(ledger))
 }
 
-// How many numbers below the highest are not.
+// How many numbers below the highest are neither recorded nor given up.
 #[no_mangle]
-pub extern "C" fn trivsome_missing(ends: &[u32; 129]) -> u64
-    ensures { λ r. ⌜ r ≡ figureOutcome (missingOf (withEnds (now (ends .entry)))) ⌝ }
+pub extern "C" fn trivsome_missing(ends: &[u32; 129], floor: u32, given: u32) -> u64
+    ensures { λ r. ⌜ r ≡ figureOutcome (missingOf (ledgerOf (now (ends .entry)) floor given)) ⌝ }
 {
-    figure_outcome(missing(Ledger { ends: *ends }))
+    let ends = *ends;
+    let ledger = Ledger { ends, floor, given };
+    figure_outcome(missing(ledger))
 }
 
-// How many unbroken runs they make.
+// The last number of the run that was given up last, or 0.
 #[no_mangle]
-pub extern "C" fn trivsome_runs(ends: &[u32; 129]) -> u64
-    ensures { λ r. ⌜ r ≡ figureOutcome (runsOf (withEnds (now (ends .entry)))) ⌝ }
+pub extern "C" fn trivsome_floor(ends: &[u32; 129], floor: u32, given: u32) -> u64
+    ensures { λ r. ⌜ r ≡ figureOutcome (floorOf (ledgerOf (now (ends .entry)) floor given)) ⌝ }
 {
-    figure_outcome(runs(Ledger { ends: *ends }))
+    let ends = *ends;
+    let ledger = Ledger { ends, floor, given };
+    figure_outcome(ledger_figures::floor(ledger))
+}
+
+// How many numbers were given up.
+#[no_mangle]
+pub extern "C" fn trivsome_given_up(ends: &[u32; 129], floor: u32, given: u32) -> u64
+    ensures { λ r. ⌜ r ≡ figureOutcome (givenUpOf (ledgerOf (now (ends .entry)) floor given)) ⌝ }
+{
+    let ends = *ends;
+    let ledger = Ledger { ends, floor, given };
+    figure_outcome(given_up(ledger))
+}
+
+// How many unbroken runs are missing.
+#[no_mangle]
+pub extern "C" fn trivsome_runs(ends: &[u32; 129], floor: u32, given: u32) -> u64
+    ensures { λ r. ⌜ r ≡ figureOutcome (runsOf (ledgerOf (now (ends .entry)) floor given)) ⌝ }
+{
+    let ends = *ends;
+    let ledger = Ledger { ends, floor, given };
+    figure_outcome(runs(ledger))
 }
 
 // The missing run at a place, the lowest at 0: its first and its last number, 20 or 23.
 #[no_mangle]
-pub extern "C" fn trivsome_run(ends: &[u32; 129], place: u32) -> u64
-    ensures { λ r. ⌜ r ≡ runOutcome (runOf (withEnds (now (ends .entry))) place) ⌝ }
+pub extern "C" fn trivsome_run(ends: &[u32; 129], floor: u32, given: u32, place: u32) -> u64
+    ensures { λ r. ⌜ r ≡ runOutcome (runOf (ledgerOf (now (ends .entry)) floor given) place) ⌝ }
 {
-    run_outcome(run(Ledger { ends: *ends }, place))
+    let ends = *ends;
+    let ledger = Ledger { ends, floor, given };
+    run_outcome(run(ledger, place))
 }

@@ -1,17 +1,18 @@
 -- The runs that the rule for 22 counts are the longest ones, in every set: any set is held by some ends.
-use Prim.Native.Nat.{ℕ, zero, suc, _+_, _-_, _≤_, max}
+use Prim.Native.Nat.{ℕ, zero, suc, _+_, _-_, _≤_, _<_, max}
 use native.Mathlib.Omega.{arith}
 use mathlib.Core.Path.{_≡_, refl, sym, ap, subst, _∙_}
 use mathlib.Core.Bool.{Bool, true, false, cond, _&&_, _||_, and-false}
 use mathlib.Core.List.{List, []}
 use lib.Dec.{leb, eqb}
 use borrow.Author.Tests.{leb-true, leb-false, le-leb, lt-leb, eqb-true, eqb-false}
-use Rattle.ledger.specs.Sets.{with, runsTo, Highest, RunsOf, HasRuns, TrueOf}
-use Rattle.ledger.specs.Ends.{falling, settledAt, highestIn, settledIn, missingIn, runsIn, firstOf, lastOf, turned, withNumber}
+use Rattle.ledger.specs.Sets.{with, settled, runsTo, Highest, RunsOf, HasRuns}
+use Rattle.ledger.specs.Ends.{falling, settledAt, highestIn, runsIn, firstOf, lastOf, turned, withNumber}
 use Rattle.ledger.proofs.EndLaws.{falls-under}
-use Rattle.ledger.proofs.SetLaws.{highest-once, true-same, with-highest}
-use Rattle.ledger.proofs.TrueLaws.{ends-true}
+use Rattle.ledger.proofs.SetLaws.{runs-same, highest-once, highest-same, runs-of-same, with-highest}
+use Rattle.ledger.proofs.TrueLaws.{ends-highest, ends-runs, ends-are-runs}
 use Rattle.ledger.proofs.TurnLaws.{turn-falls, number-settled}
+use Rattle.ledger.proofs.SettledLaws.{runs-above, highest-settled}
 
 -- the ends of the numbers of a set up to a bound
 abbrev endsOf : (ℕ → Bool) → ℕ → List ℕ
@@ -70,21 +71,32 @@ ends-all f top y hi lo = ends-hold f top y lo ∙ go (leb y top) refl
     go false p = sym (hi .none-above y (leb-false y top p))
 
 -- the count of starting runs is the number of longest runs, whatever the set
-pub runs-counted : (f : ℕ → Bool) (top : ℕ) → Highest f top → HasRuns f 0 top (runsTo f top)
+runs-counted : (f : ℕ → Bool) (top : ℕ) → Highest f top → HasRuns f 0 top (runsTo f top)
 runs-counted f top hi =
     let es = endsOf f top in
-    let is : TrueOf f (highestIn es) (settledIn es) (missingIn es) (runsIn es) (firstOf es) (lastOf es) =
-    true-same (settledAt es) f (λ (y : ℕ) (lo : 1 ≤ y). ends-all f top y hi lo) (highestIn es) (settledIn es) (missingIn es) (runsIn es) (firstOf es) (lastOf es)
-    (ends-true (top + 1) es (ends-fall f top)) in
-    let highest : highestIn es ≡ top = highest-once f (highestIn es) top (is .is-highest) hi in
-    let runs : runsIn es ≡ runsTo f top = is .is-runs ∙ ap (λ (t : ℕ). runsTo f t) highest in
+    let falls : falling (top + 1) es ≡ true = ends-fall f top in
+    let same : (y : ℕ) → 1 ≤ y → settledAt es y ≡ f y = λ (y : ℕ) (lo : 1 ≤ y). ends-all f top y hi lo in
+    let highest : highestIn es ≡ top = highest-once f (highestIn es) top (highest-same (settledAt es) f same (highestIn es) (ends-highest (top + 1) es falls)) hi in
+    let runs : runsIn es ≡ runsTo f top =
+    sym (ends-runs (top + 1) es falls .0) ∙ runs-same (settledAt es) f (highestIn es) (λ (y : ℕ) (lo : 1 ≤ y) (up : y ≤ highestIn es). same y lo) ∙ ap (λ (t : ℕ). runsTo f t) highest in
     record {
       first = firstOf es;
       last = lastOf es;
       are-runs = subst (λ (r : ℕ). RunsOf f 0 top r (firstOf es) (lastOf es)) runs
-          (subst (λ (t : ℕ). RunsOf f 0 t (runsIn es) (firstOf es) (lastOf es)) highest (is .are-runs));
+          (subst (λ (t : ℕ). RunsOf f 0 t (runsIn es) (firstOf es) (lastOf es)) highest
+          (runs-of-same (settledAt es) f same 0 (highestIn es) (runsIn es) (firstOf es) (lastOf es) (ends-are-runs (top + 1) es falls)));
     }
 
--- so 22 counts the longest missing runs that recording a number would leave
-pub rule-counts : (f : ℕ → Bool) (n top : ℕ) → 1 ≤ n → Highest f top → HasRuns (with n f) 0 (max n top) (runsTo (with n f) (max n top))
-rule-counts f n top lo hi = runs-counted (with n f) (max n top) (with-highest f n top lo hi)
+-- and above a floor
+pub runs-counted-above : (f : ℕ → Bool) (floor top : ℕ) → floor ≤ top → Highest f top → HasRuns f floor top (runsTo (settled floor f) top)
+runs-counted-above f floor top le hi =
+    let has = runs-counted (settled floor f) top (highest-settled floor f top le hi) in
+    record {
+      first = has .first;
+      last = has .last;
+      are-runs = runs-above floor f top (runsTo (settled floor f) top) (has .first) (has .last) (has .are-runs);
+    }
+
+-- so 22 counts the longest missing runs above the floor that recording a number would leave
+pub rule-counts : (f : ℕ → Bool) (floor n top : ℕ) → floor < n → Highest f top → HasRuns (with n f) floor (max n top) (runsTo (settled floor (with n f)) (max n top))
+rule-counts f floor n top lo hi = runs-counted-above (with n f) floor (max n top) (omega arith) (with-highest f n top (omega arith) hi)

@@ -6,7 +6,7 @@ use mathlib.Core.Bool.{Bool, true, false, cond, not, _&&_, _||_}
 use mathlib.Core.Logic.{_⊎_, inl, inr, ⊎-elim}
 use lib.Dec.{leb, eqb}
 use borrow.Author.Tests.{leb-true, leb-false, eq-eqb, ne-eqb, eqb-true, eqb-false}
-use Rattle.ledger.specs.Sets.{with, countTo, startsRun, runsTo, Highest, Longest, TrueOf}
+use Rattle.ledger.specs.Sets.{with, countTo, startsRun, runsTo, Highest, Longest, RunsOf}
 
 -- a Bool that is both
 pub never : {P : Type 0} (b : Bool) → b ≡ true → b ≡ false → P
@@ -87,7 +87,7 @@ highest-once f a b ha hb = go (leb a b) refl (leb b a) refl
     go true p false q = absurd (over a b ha hb (leb-false b a q))
     go false p t q = absurd (over b a hb ha (leb-false a b p))
 
--- sets that agree from 1 on have the same highest number, the same runs and the same figures
+-- sets that agree from 1 on have the same highest number and the same runs
 module _ (f g : ℕ → Bool) (same : (y : ℕ) → 1 ≤ y → f y ≡ g y) where
   pub highest-same : (top : ℕ) → Highest f top → Highest g top
   highest-same top hi = record {
@@ -113,19 +113,12 @@ module _ (f g : ℕ → Bool) (same : (y : ℕ) → 1 ≤ y → f y ≡ g y) whe
       go true p h = ⊎-elim (λ (q : first ≡ floor + 1). inl q) (λ (q : f (first - 1) ≡ true). inr (sym (same (first - 1) (omega (arith, leb-true 2 first p))) ∙ q)) h
       go false p h = inl (omega (arith, leb-false 2 first p, run .above-floor))
 
-pub true-same : (f g : ℕ → Bool) → ((y : ℕ) → 1 ≤ y → f y ≡ g y) → (highest heard missing runs : ℕ) (first last : ℕ → ℕ)
-    → TrueOf f highest heard missing runs first last → TrueOf g highest heard missing runs first last
-true-same f g same highest heard missing runs first last t = record {
-  is-highest = highest-same f g same highest (t .is-highest);
-  is-heard = t .is-heard ∙ count-same f g highest (λ (y : ℕ) (lo : 1 ≤ y) (hi : y ≤ highest). same y lo);
-  adds-up = t .adds-up;
-  is-runs = t .is-runs ∙ runs-same f g highest (λ (y : ℕ) (lo : 1 ≤ y) (hi : y ≤ highest). same y lo);
-  are-runs = record {
-    each-longest = λ (k : ℕ) (lt : k < runs). longest-same f g same 0 highest (first k) (last k) (t .are-runs .each-longest k lt);
-    rising = t .are-runs .rising;
-    every-longest = λ (a b : ℕ) (run : Longest g 0 highest a b).
-        t .are-runs .every-longest a b (longest-same g f (λ (y : ℕ) (lo : 1 ≤ y). sym (same y lo)) 0 highest a b run);
-  };
+pub runs-of-same : (f g : ℕ → Bool) → ((y : ℕ) → 1 ≤ y → f y ≡ g y) → (floor top runs : ℕ) (first last : ℕ → ℕ)
+    → RunsOf f floor top runs first last → RunsOf g floor top runs first last
+runs-of-same f g same floor top runs first last r = record {
+  each-longest = λ (k : ℕ) (lt : k < runs). longest-same f g same floor top (first k) (last k) (r .each-longest k lt);
+  rising = r .rising;
+  every-longest = λ (a b : ℕ) (run : Longest g floor top a b). r .every-longest a b (longest-same g f (λ (y : ℕ) (lo : 1 ≤ y). sym (same y lo)) floor top a b run);
 }
 
 -- a number put in: the highest is the larger one, and a number that is there already changes nothing

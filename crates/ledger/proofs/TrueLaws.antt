@@ -1,16 +1,16 @@
 -- What falling ends say is true of the set of numbers that they hold.
 use Prim.Native.Nat.{ℕ, zero, suc, _+_, _-_, _*_, _/_, _%_, _≤_, _<_}
 use native.Mathlib.Omega.{arith}
-use mathlib.Core.Path.{_≡_, refl, sym, ap, _∙_}
+use mathlib.Core.Path.{_≡_, refl, ap, _∙_}
 use mathlib.Core.Bool.{Bool, true, false, not, Bool·not-not}
 use mathlib.Core.List.{List, [], _∷_}
 use mathlib.Core.Logic.{_⊎_, inl, inr, ⊎-elim}
 use lib.ListN.{getD}
 use lib.Dec.{leb}
 use borrow.Author.Tests.{leb-true, leb-false, le-leb}
-use Rattle.ledger.specs.Sets.{countTo, runsTo, Highest, Longest, TrueOf}
-use Rattle.ledger.specs.Ends.{falling, endsFrom, settledAt, highestIn, settledIn, missingIn, runsIn, firstOf, lastOf}
-use Rattle.ledger.proofs.EndLaws.{falls-tail, falls-bound, falls-next, falls-far, from-none, from-below, from-above, from-between, odd-settled, even-missing, missing-even, settled-under, settled-under-highest}
+use Rattle.ledger.specs.Sets.{countTo, runsTo, Highest, Longest, RunsOf}
+use Rattle.ledger.specs.Ends.{falling, endsFrom, settledAt, highestIn, settledIn, runsIn, firstOf, lastOf}
+use Rattle.ledger.proofs.EndLaws.{falls-tail, falls-bound, falls-next, falls-far, from-none, from-below, from-above, from-between, odd-settled, even-missing, missing-even, settled-under}
 use Rattle.ledger.proofs.SetLaws.{never, count-above, count-both, runs-same, run-above, none-settled-above}
 
 -- the first end is the highest number
@@ -155,16 +155,9 @@ longest-found b es first last h run =
             let short : last < getD es (suc (2 * r)) 0 = leb-false (getD es (suc (2 * r)) 0) last p in
             never (settledAt es (last + 1)) q (ends-longest b es r h one .missing (last + 1) (omega (arith, run .in-order)) (omega arith))
 
--- the whole of it
-pub ends-true : (b : ℕ) (es : List ℕ) → falling b es ≡ true
-    → TrueOf (settledAt es) (highestIn es) (settledIn es) (missingIn es) (runsIn es) (firstOf es) (lastOf es)
-ends-true b es h = record {
-  is-highest = ends-highest b es h;
-  is-heard = sym (ends-settled b es (highestIn es) h (omega arith));
-  adds-up = omega (arith, settled-under-highest es);
-  is-runs = sym (ends-runs b es h .0);
-  are-runs = record { each-longest = each; rising = rise; every-longest = every };
-}
+-- all of them, rising
+pub ends-are-runs : (b : ℕ) (es : List ℕ) → falling b es ≡ true → RunsOf (settledAt es) 0 (highestIn es) (runsIn es) (firstOf es) (lastOf es)
+ends-are-runs b es h = record { each-longest = each; rising = rise; every-longest = every }
   where
     each : (k : ℕ) → k < runsIn es → Longest (settledAt es) 0 (highestIn es) (firstOf es k) (lastOf es k)
     each k lt =

@@ -1,7 +1,7 @@
 -- Ends turned: which numbers change sides, and that the list goes on falling.
-use Prim.Native.Nat.{ℕ, zero, suc, _+_, _-_, _%_, _≤_, _<_}
+use Prim.Native.Nat.{ℕ, zero, suc, _+_, _-_, _%_, _≤_, _<_, min}
 use native.Mathlib.Omega.{arith}
-use mathlib.Core.Path.{_≡_, refl, ap, _∙_}
+use mathlib.Core.Path.{_≡_, refl, sym, ap, _∙_}
 use mathlib.Core.Bool.{Bool, true, false, cond, _||_}
 use mathlib.Core.List.{List, [], _∷_, _++_}
 use lib.ListN.{length, take, replicate, length-append, length-replicate}
@@ -105,17 +105,32 @@ from-fewer x y (e ∷ es) le = go (leb x e) refl (leb y e) refl (from-fewer x y 
     go false p true q ih = absurd (omega (arith, leb-false x e p, leb-true y e q))
     go false p false q ih = omega arith
 
-pub from-take : (b y k : ℕ) (es : List ℕ) → falling b es ≡ true → 1 ≤ y → endsFrom 1 es ≤ k → endsFrom y (take k es) ≡ endsFrom y es
-from-take b y zero es h lo le = omega (arith, from-fewer 1 y es lo)
-from-take b y (suc k) [] h lo le = refl
-from-take b y (suc k) (e ∷ es) h lo le = ap (λ (n : ℕ). cond (leb y e) 1 0 + n) (from-take e y k es t lo (go (leb 1 e) refl le))
+-- of the first k ends as many are a number or above it as of all, but no more than k
+pub from-first : (b y k : ℕ) (es : List ℕ) → falling b es ≡ true → 1 ≤ y → endsFrom y (take k es) ≡ min k (endsFrom y es)
+from-first b y zero es h lo = omega arith
+from-first b y (suc k) [] h lo = omega arith
+from-first b y (suc k) (e ∷ es) h lo = go (leb y e) refl (from-first e y k es (falls-tail b e es h) lo)
   where
-    t : falling e es ≡ true
-    t = falls-tail b e es h
+    go : (t : Bool) → leb y e ≡ t → endsFrom y (take k es) ≡ min k (endsFrom y es) → cond t 1 0 + endsFrom y (take k es) ≡ min (suc k) (cond t 1 0 + endsFrom y es)
+    go true p ih = omega arith
+    go false p ih = omega (arith, leb-false y e p, from-none e y es (falls-tail b e es h) (omega (arith, leb-false y e p)) lo)
 
-    go : (s : Bool) → leb 1 e ≡ s → cond s 1 0 + endsFrom 1 es ≤ suc k → endsFrom 1 es ≤ k
-    go true p le = omega arith
-    go false p le = omega (arith, from-none e 1 es t (omega (arith, leb-false 1 e p)) (omega arith))
+pub from-take : (b y k : ℕ) (es : List ℕ) → falling b es ≡ true → 1 ≤ y → endsFrom 1 es ≤ k → endsFrom y (take k es) ≡ endsFrom y es
+from-take b y k es h lo le = omega (arith, from-first b y k es h lo, from-fewer 1 y es lo)
+
+-- an end turned at a number or above it leaves those below the number as they are
+pub turn-above : (m x : ℕ) (es : List ℕ) → 1 ≤ m → m ≤ x → endsFrom 1 (turned x es) + endsFrom m es ≡ endsFrom m (turned x es) + endsFrom 1 es
+turn-above m x [] one le = rw (le-leb 1 x (omega arith), le-leb m x le) refl
+turn-above m x (e ∷ es) one le = go (ltb x e) (eqb x e) refl (turn-above m x es one le)
+  where
+    both : (leb 1 x ≡ true) × (leb m x ≡ true)
+    both = (le-leb 1 x (omega arith), le-leb m x le)
+
+    go : (s t : Bool) → eqb x e ≡ t → endsFrom 1 (turned x es) + endsFrom m es ≡ endsFrom m (turned x es) + endsFrom 1 es
+        → endsFrom 1 (cond s (e ∷ turned x es) (cond t es (x ∷ e ∷ es))) + endsFrom m (e ∷ es) ≡ endsFrom m (cond s (e ∷ turned x es) (cond t es (x ∷ e ∷ es))) + endsFrom 1 (e ∷ es)
+    go true t q ih = omega arith
+    go false true q ih = let same : x ≡ e = eqb-true x e q in rw (sym same, both .0, both .1) (omega arith)
+    go false false q ih = rw (both .0, both .1) (omega arith)
 
 -- the ends fitted to a record's places
 pub fitted-falls : (b : ℕ) (es : List ℕ) → falling b es ≡ true → falling b (fitted es) ≡ true

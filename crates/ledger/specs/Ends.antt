@@ -1,5 +1,5 @@
 -- What a record holds: the last number of each unbroken stretch, settled and missing by turns, from the highest down. A number is
--- settled when nothing more is waited for: it was recorded.
+-- settled when it was recorded, or is not above the floor.
 use Prim.Native.Nat.{ℕ, _+_, _-_, _*_, _/_, _%_}
 use mathlib.Core.Bool.{Bool, true, cond, _&&_}
 use mathlib.Core.List.{List, [], _∷_, _++_}
@@ -60,6 +60,17 @@ withRun a b es = turned a (turned b es)
 -- one number changes sides
 abbrev pub withNumber : ℕ → List ℕ → List ℕ
 withNumber n es = withRun (n - 1) n es
+
+-- the lowest missing run is no longer missing: its own end and that of the stretch below go, and there are none behind them
+abbrev pub withoutLowest : List ℕ → List ℕ
+withoutLowest es = take (2 * runsIn es - 1) es
+
+-- the floors that a series can leave beside these ends, and how many numbers are then given up: none at floor 0; else 1 to floor
+-- of them, the number after the floor is settled, and so is every number up to it, no end being there
+unfoldable pub floorFits : ℕ → ℕ → List ℕ → Bool
+floorFits floor given es =
+    cond (eqb floor 0) (eqb given 0)
+    (leb 1 given && (leb given floor && (settledAt es (floor + 1) && eqb (endsFrom 1 es) (endsFrom (floor + 1) es))))
 
 -- as many places as a record has, zeros behind the last end
 abbrev pub fitted : List ℕ → List ℕ

@@ -3,4 +3,5 @@ pub mod Sets
 pub mod Ends
 pub mod Calls
 pub mod History
+pub mod Before
 pub mod Edges

@@ -7,9 +7,9 @@ use denote.Triple.Clauses
 use Rattle.ledger_ends.proofs.look as look
 use Rattle.ledger_ends.proofs.look.Kinds as look-kinds
 use Rattle.ledger_ends.proofs.look.Reads as look-reads
-use Rattle.ledger_ends.proofs.settled_in as settled
-use Rattle.ledger_ends.proofs.settled_in.Kinds as settled-kinds
-use Rattle.ledger_ends.proofs.settled_in.Reads as settled-reads
+use Rattle.ledger_ends.proofs.heard_in as heard
+use Rattle.ledger_ends.proofs.heard_in.Kinds as heard-kinds
+use Rattle.ledger_ends.proofs.heard_in.Reads as heard-reads
 use Rattle.ledger_ends.proofs.missing_in as missing
 use Rattle.ledger_ends.proofs.missing_in.Kinds as missing-kinds
 use Rattle.ledger_ends.proofs.missing_in.Reads as missing-reads
@@ -20,11 +20,11 @@ pub determined-look : (κs : Lifetimes.Lfts 1) (a : World.ArgsD look.signature �
     → r₁ ≡ r₂
 determined-look κs a r₁ r₂ s₁ s₂ p q = p ∙ sym q
 
--- what `settled_in` counts
-pub determined-settled-in : (κs : Lifetimes.Lfts 1) (a : World.ArgsD settled.signature κs) (r₁ r₂ : World.ResD settled.signature κs)
-    (s₁ s₂ : Clauses.AtExit (kinds.endedOf 1 settled-kinds.ps settled-kinds.r) κs) → settled-reads.Post κs a r₁ s₁ → settled-reads.Post κs a r₂ s₂
+-- what `heard_in` counts
+pub determined-heard-in : (κs : Lifetimes.Lfts 1) (a : World.ArgsD heard.signature κs) (r₁ r₂ : World.ResD heard.signature κs)
+    (s₁ s₂ : Clauses.AtExit (kinds.endedOf 1 heard-kinds.ps heard-kinds.r) κs) → heard-reads.Post κs a r₁ s₁ → heard-reads.Post κs a r₂ s₂
     → r₁ ≡ r₂
-determined-settled-in κs a r₁ r₂ s₁ s₂ p q = p ∙ sym q
+determined-heard-in κs a r₁ r₂ s₁ s₂ p q = p ∙ sym q
 
 -- what `missing_in` counts
 pub determined-missing-in : (κs : Lifetimes.Lfts 1) (a : World.ArgsD missing.signature κs) (r₁ r₂ : World.ResD missing.signature κs)

@@ -34,10 +34,13 @@ falls-take b zero es h = sym (zeros-fall b es h)
 falls-take b (suc k) [] h = refl
 falls-take b (suc k) (e ∷ es) h = ap (λ (t : Bool). leb e (b - 1) && t) (falls-take e k es h)
 
--- what is found in the ends before a place is found in all, where those from it on are 0
-pub found-take : (n k : ℕ) (es : List ℕ) → 1 ≤ n → endsFrom 1 (drop k es) ≡ 0 → foundIn n (take k es) ≡ foundIn n es
-found-take n k es lo h =
+-- what is counted in the ends before a place is counted in all, where those from it on are 0
+pub counts-take : (n k : ℕ) (es : List ℕ) → 1 ≤ n → endsFrom 1 (drop k es) ≡ 0 → endsFrom n (take k es) ≡ endsFrom n es
+counts-take n k es lo h =
     let all : endsFrom n es ≡ endsFrom n (take k es) + endsFrom n (drop k es) =
     ap (λ (t : List ℕ). endsFrom n t) (sym (take-append-drop k es)) ∙ from-append n (take k es) (drop k es) in
-    let same : endsFrom n (take k es) ≡ endsFrom n es = omega (arith, from-fewer 1 n (drop k es) lo) in
-    rw (falls-take (mostNumber + 1) k es h, same) refl
+    omega (arith, from-fewer 1 n (drop k es) lo)
+
+-- and what is found
+pub found-take : (n k : ℕ) (es : List ℕ) → 1 ≤ n → endsFrom 1 (drop k es) ≡ 0 → foundIn n (take k es) ≡ foundIn n es
+found-take n k es lo h = rw (falls-take (mostNumber + 1) k es h, counts-take n k es lo h) refl

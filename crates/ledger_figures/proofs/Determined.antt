@@ -16,6 +16,12 @@ use Rattle.ledger_figures.proofs.missing.Reads as missing-reads
 use Rattle.ledger_figures.proofs.runs as runs
 use Rattle.ledger_figures.proofs.runs.Kinds as runs-kinds
 use Rattle.ledger_figures.proofs.runs.Reads as runs-reads
+use Rattle.ledger_figures.proofs.floor as floor
+use Rattle.ledger_figures.proofs.floor.Kinds as floor-kinds
+use Rattle.ledger_figures.proofs.floor.Reads as floor-reads
+use Rattle.ledger_figures.proofs.given_up as given-up
+use Rattle.ledger_figures.proofs.given_up.Kinds as given-up-kinds
+use Rattle.ledger_figures.proofs.given_up.Reads as given-up-reads
 use Rattle.ledger_figures.proofs.run as run
 use Rattle.ledger_figures.proofs.run.Kinds as run-kinds
 use Rattle.ledger_figures.proofs.run.Reads as run-reads
@@ -43,6 +49,18 @@ pub determined-runs : (κs : Lifetimes.Lfts 0) (a : World.ArgsD runs.signature �
     (s₁ s₂ : Clauses.AtExit (kinds.endedOf 0 runs-kinds.ps runs-kinds.r) κs) → runs-reads.Post κs a r₁ s₁ → runs-reads.Post κs a r₂ s₂
     → r₁ ≡ r₂
 determined-runs κs a r₁ r₂ s₁ s₂ p q = p ∙ sym q
+
+-- what `floor` answers
+pub determined-floor : (κs : Lifetimes.Lfts 0) (a : World.ArgsD floor.signature κs) (r₁ r₂ : World.ResD floor.signature κs)
+    (s₁ s₂ : Clauses.AtExit (kinds.endedOf 0 floor-kinds.ps floor-kinds.r) κs) → floor-reads.Post κs a r₁ s₁ → floor-reads.Post κs a r₂ s₂
+    → r₁ ≡ r₂
+determined-floor κs a r₁ r₂ s₁ s₂ p q = p ∙ sym q
+
+-- what `given_up` answers
+pub determined-given-up : (κs : Lifetimes.Lfts 0) (a : World.ArgsD given-up.signature κs) (r₁ r₂ : World.ResD given-up.signature κs)
+    (s₁ s₂ : Clauses.AtExit (kinds.endedOf 0 given-up-kinds.ps given-up-kinds.r) κs) → given-up-reads.Post κs a r₁ s₁ → given-up-reads.Post κs a r₂ s₂
+    → r₁ ≡ r₂
+determined-given-up κs a r₁ r₂ s₁ s₂ p q = p ∙ sym q
 
 -- what `run` answers
 pub determined-run : (κs : Lifetimes.Lfts 0) (a : World.ArgsD run.signature κs) (r₁ r₂ : World.ResD run.signature κs)

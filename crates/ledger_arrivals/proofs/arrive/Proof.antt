@@ -17,7 +17,7 @@ returns : tie.Need-returns
 returns c =
     let a = c .before .before .before .before .args in
     let whole : length (a .ledger .ends) ≡ places = search needs in
-    c .before .arrive-lent .ensures ∙ lent-whole (a .ledger .ends) (a .n) whole
+    c .before .arrive-lent .ensures ∙ lent-whole (a .ledger) (a .n) whole
 
 pub arrive-spec : {M : Type 1} → statement M
 arrive-spec = tie.close (tie.spec slice-aggregate-arrive-lent arrive-lent-requires returns)

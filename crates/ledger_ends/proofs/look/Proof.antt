@@ -1,9 +1,10 @@
--- `look` meets its contract: in the ends that are used is found what is found in all.
+-- `look` meets its contract.
 use native.Mathlib.Omega.{arith}
-use mathlib.Core.Path.{sym, _∙_}
+use mathlib.Core.Path.{_≡_, sym}
+use lib.ListN.{length}
 use lib.Seq.{length-take-le}
-use Rattle.ledger_ends.proofs.UsedLaws.{found-take}
-use Rattle.ledger_ends.proofs.SeenLaws.{found-seen, none-seen}
+use Rattle.ledger.specs.Ends.{places}
+use Rattle.ledger_ends.proofs.SeenLaws.{none-seen, seen-disorder, reach-order, seen-order}
 use borrow.Author.Needs.{needs}
 use Rattle.ledger_ends.proofs.look.Statement.{statement}
 use Rattle.ledger_ends.proofs.look.Tie as tie
@@ -11,43 +12,65 @@ use Rattle.ledger_ends.proofs.look.Tie as tie
 returns : tie.Need-returns
 returns c =
     let a = c .before .before .args in
-    none-seen (a .n) (a .ends .now) (c .if1 .taken)
+    none-seen (a .n) (a .ends .now) (a .floor) (a .given) (c .if1 .taken)
 
-look-over-requires : tie.Need-look-over-requires
-look-over-requires c κs = search needs
-
-returns-2 : tie.Need-returns-2
-returns-2 c =
-    let a = c .before .before .before .before .args in
-    c .look-over .ensures ∙ found-seen (a .n) (a .ends .now) (omega arith)
-
-used-requires : tie.Need-used-requires
-used-requires c κs = search needs
+reach-requires : tie.Need-reach-requires
+reach-requires c κs = search needs
 
 slice-aggregate-look-over : tie.Need-slice-aggregate-look-over
 slice-aggregate-look-over c =
-    let es = c .before .before .before .before .before .args .ends .now in
-    sym (length-take-le (c .before .used .result) es (omega (arith, c .before .used .ensures .0)))
+    let a = c .before .before .before .before .args in
+    let to = c .before .reach in
+    let whole : length (a .ends .now) ≡ places = omega (arith, c .before .before .if1 .left) in
+    sym (length-take-le (to .result) (a .ends .now) (omega (arith, to .ensures .within)))
 
-look-over-requires-2 : tie.Need-look-over-requires-2
-look-over-requires-2 c κs =
-    let es = c .before .before .before .before .before .args .ends .now in
-    rw (length-take-le (c .before .used .result) es (omega (arith, c .before .used .ensures .0))) (c .before .used .ensures .0)
+look-over-requires : tie.Need-look-over-requires
+look-over-requires c κs =
+    let a = c .before .before .before .before .args in
+    let to = c .before .reach in
+    let whole : length (a .ends .now) ≡ places = omega (arith, c .before .before .if1 .left) in
+    rw (length-take-le (to .result) (a .ends .now) (omega (arith, to .ensures .within))) (to .ensures .within)
+
+returns-2 : tie.Need-returns-2
+returns-2 c =
+    let a = c .before .before .before .before .before .before .before .args in
+    let to = c .before .before .before .before .reach in
+    let whole : length (a .ends .now) ≡ places = omega (arith, c .before .before .before .before .before .if1 .left) in
+    let seen = c .before .before .look-over in
+    seen-disorder (a .n) (a .ends .now) (a .floor) (a .given) whole (to .result) (to .ensures) (seen .result) (seen .ensures) (c .if2 .taken)
+
+slice-aggregate-floor-fits : tie.Need-slice-aggregate-floor-fits
+slice-aggregate-floor-fits c =
+    let a = c .before .before .before .before .before .before .before .before .args in
+    let to = c .before .before .before .before .before .reach in
+    let whole : length (a .ends .now) ≡ places = omega (arith, c .before .before .before .before .before .before .if1 .left) in
+    sym (length-take-le (to .result) (a .ends .now) (omega (arith, to .ensures .within)))
+
+floor-fits-requires : tie.Need-floor-fits-requires
+floor-fits-requires c κs =
+    let a = c .before .before .before .before .before .before .before .before .args in
+    let to = c .before .before .before .before .before .reach in
+    let whole : length (a .ends .now) ≡ places = omega (arith, c .before .before .before .before .before .before .if1 .left) in
+    let seen = c .before .before .before .look-over in
+    reach-order (a .n) (a .ends .now) (a .floor) (a .given) whole (to .result) (to .ensures) (seen .result) (seen .ensures) (c .before .if2 .left)
 
 returns-3 : tie.Need-returns-3
 returns-3 c =
-    let a = c .before .before .before .before .before .before .args in
-    let used = c .before .before .used in
-    c .look-over2 .ensures ∙ found-take (a .n) (used .result) (a .ends .now) (omega arith) (used .ensures .1) ∙ found-seen (a .n) (a .ends .now) (omega arith)
+    let a = c .before .before .before .before .before .before .before .before .before .args in
+    let to = c .before .before .before .before .before .before .reach in
+    let whole : length (a .ends .now) ≡ places = omega (arith, c .before .before .before .before .before .before .before .if1 .left) in
+    let seen = c .before .before .before .before .look-over in
+    seen-order (a .n) (a .ends .now) (a .floor) (a .given) whole (to .result) (to .ensures) (seen .result) (seen .ensures) (c .before .before .if2 .left) (c .floor-fits .result) (c .floor-fits .ensures)
 
 pub look-spec : {M : Type 1} → statement M
 look-spec =
     tie.close
     (tie.spec
     returns
+    reach-requires
+    slice-aggregate-look-over
     look-over-requires
     returns-2
-    used-requires
-    slice-aggregate-look-over
-    look-over-requires-2
+    slice-aggregate-floor-fits
+    floor-fits-requires
     returns-3)

@@ -1,79 +1,53 @@
 -- `used` meets its contract.
 use mathlib.Core.Path.{refl, sym, _∙_}
 use native.Mathlib.Omega.{arith}
-use lib.ListN.{drop, drop-of-length-le}
-use borrow.Author.Tests.{eqb-true}
-use Rattle.ledger.specs.Ends.{endsFrom}
+use lib.ListN.{drop-of-length-le, length-drop}
 use Rattle.ledger_ends.proofs.UsedLaws.{rest}
 use borrow.Author.Needs.{needs}
 use Rattle.ledger_ends.proofs.used.Statement.{statement}
 use Rattle.ledger_ends.proofs.used.Tie as tie
 
-shared-slice-read-if1 : tie.Need-shared-slice-read-if1
-shared-slice-read-if1 c = search needs
+zero-at-requires : tie.Need-zero-at-requires
+zero-at-requires c κs = search needs
 
-sub-all-zero : tie.Need-sub-all-zero
-sub-all-zero c = search needs
+mul-in-use : tie.Need-mul-in-use
+mul-in-use c = search needs
 
-part-all-zero-start : tie.Need-part-all-zero-start
-part-all-zero-start c = search needs
+sub-in-use : tie.Need-sub-in-use
+sub-in-use c = omega (arith, c .zero-at .ensures, c .before .before .pre)
 
-part-all-zero-end : tie.Need-part-all-zero-end
-part-all-zero-end c = search needs
+part-in-use-start : tie.Need-part-in-use-start
+part-in-use-start c = omega (arith, c .zero-at .ensures, c .before .before .pre)
 
-all-zero-requires : tie.Need-all-zero-requires
-all-zero-requires c κs = search needs
+part-in-use-end : tie.Need-part-in-use-end
+part-in-use-end c = search needs
+
+in-use-requires : tie.Need-in-use-requires
+in-use-requires c κs =
+    let s = c .before .before .before in
+    let to = c .before .zero-at .result in
+    rw (rest to (s .args .ends .now)) (omega (arith, length-drop to (s .args .ends .now), s .pre))
 
 returns : tie.Need-returns
 returns c =
-    let es = c .before .before .before .before .before .before .args .ends .now in
-    (omega arith, eqb-true (endsFrom 1 (drop 17 es)) 0 (rw (rest 17 es) at (sym (c .before .all-zero .ensures) ∙ c .if2 .taken)))
-
-shared-slice-read-if3 : tie.Need-shared-slice-read-if3
-shared-slice-read-if3 c = search needs
-
-sub-all-zero-2 : tie.Need-sub-all-zero-2
-sub-all-zero-2 c = search needs
-
-part-all-zero-start-2 : tie.Need-part-all-zero-start-2
-part-all-zero-start-2 c = search needs
-
-part-all-zero-end-2 : tie.Need-part-all-zero-end-2
-part-all-zero-end-2 c = search needs
-
-all-zero-requires-2 : tie.Need-all-zero-requires-2
-all-zero-requires-2 c κs = search needs
+    let to = c .before .before .before .zero-at in
+    let es = c .before .before .before .before .before .args .ends .now in
+    (to .ensures, rw (rest (to .result) es) at (sym (c .before .in-use .ensures) ∙ c .if1 .taken))
 
 returns-2 : tie.Need-returns-2
 returns-2 c =
-    let es = c .before .before .before .before .before .before .before .before .args .ends .now in
-    (omega arith, eqb-true (endsFrom 1 (drop 65 es)) 0 (rw (rest 65 es) at (sym (c .before .all-zero2 .ensures) ∙ c .if4 .taken)))
-
-returns-3 : tie.Need-returns-3
-returns-3 c =
-    let es = c .before .before .before .before .before .before .before .before .args .ends .now in
-    (omega arith, rw (drop-of-length-le es {i = 129} (omega arith)) refl)
-
-returns-4 : tie.Need-returns-4
-returns-4 c =
-    let es = c .before .before .before .before .before .args .ends .now in
-    (omega arith, rw (drop-of-length-le es {i = 129} (omega arith)) refl)
+    let s = c .before .before .before .before .before in
+    (omega arith, rw (drop-of-length-le (s .args .ends .now) {i = 129} (omega (arith, s .pre))) refl)
 
 pub used-spec : {M : Type 1} → statement M
 used-spec =
     tie.close
     (tie.spec
-    shared-slice-read-if1
-    sub-all-zero
-    part-all-zero-start
-    part-all-zero-end
-    all-zero-requires
+    zero-at-requires
+    mul-in-use
+    sub-in-use
+    part-in-use-start
+    part-in-use-end
+    in-use-requires
     returns
-    shared-slice-read-if3
-    sub-all-zero-2
-    part-all-zero-start-2
-    part-all-zero-end-2
-    all-zero-requires-2
-    returns-2
-    returns-3
-    returns-4)
+    returns-2)

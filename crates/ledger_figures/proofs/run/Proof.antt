@@ -35,8 +35,8 @@ cast-end c = search needs
 mul-end : tie.Need-mul-end
 mul-end c = search needs
 
-mul-t11 : tie.Need-mul-t11
-mul-t11 c = search needs
+mul-t12 : tie.Need-mul-t12
+mul-t12 c = search needs
 
 element-copy-out-t10 : tie.Need-element-copy-out-t10
 element-copy-out-t10 c =
@@ -45,8 +45,8 @@ element-copy-out-t10 c =
     let whole : length (l .ends) ≡ places = search needs in
     run-within l (seen .result) whole (seen .ensures) (c .before .before .if1 .left) (c .before .before .before .before .before .before .before .before .args .place) (c .if2 .left)
 
-add-t14 : tie.Need-add-t14
-add-t14 c =
+add-t9 : tie.Need-add-t9
+add-t9 c =
     let l = c .before .before .before .before .before .before .before .before .before .args .t1 in
     let seen = c .before .before .before .before .before .look in
     let whole : length (l .ends) ≡ places = search needs in
@@ -82,9 +82,9 @@ run-spec =
     sub-end
     cast-end
     mul-end
-    mul-t11
+    mul-t12
     element-copy-out-t10
-    add-t14
+    add-t9
     sub-t15
     mul-t16
     element-copy-out-t19

@@ -1,20 +1,19 @@
--- `all_zero` meets its contract. The loop's invariant: the ends counted so far that are not 0 and those left are all.
+-- `in_use` meets its contract. The loop's invariant: the ends counted so far and those left are all.
 use Prim.Native.Nat.{_+_, _-_, _≤_}
 use native.Mathlib.Omega.{arith}
-use mathlib.Core.Path.{_≡_, ap}
-use lib.Dec.{eqb}
+use mathlib.Core.Path.{_≡_}
 use lib.ListN.{length, drop}
 use Rattle.ledger.specs.Ends.{endsFrom}
 use Rattle.ledger_ends.proofs.LoopLaws.{counts-on, counts-ends}
 use borrow.Author.Needs.{needs}
-use Rattle.ledger_ends.proofs.all_zero.Statement.{statement}
-use Rattle.ledger_ends.proofs.all_zero.Tie as tie
+use Rattle.ledger_ends.proofs.in_use.Statement.{statement}
+use Rattle.ledger_ends.proofs.in_use.Tie as tie
 
 abbrev Inv-loop : tie.InvT-loop
-Inv-loop ends others₀ i₀ others i = (i ≤ length ends) × (others ≤ i) × (others + endsFrom 1 (drop i ends) ≡ endsFrom 1 ends)
+Inv-loop ends count₀ i₀ count i = (i ≤ length ends) × (count ≤ i) × (count + endsFrom 1 (drop i ends) ≡ endsFrom 1 ends)
 
 abbrev μ-loop : tie.MeasureT-loop
-μ-loop ends others₀ i₀ others i = length ends - i
+μ-loop ends count₀ i₀ count i = length ends - i
 
 loop-holds : tie.Need-loop-holds Inv-loop μ-loop
 loop-holds c = (search needs, search needs, omega arith)
@@ -28,8 +27,8 @@ shared-slice-read-at-or-above c = search needs
 at-or-above-requires : tie.Need-at-or-above-requires Inv-loop μ-loop
 at-or-above-requires c κs = search needs
 
-add-others : tie.Need-add-others Inv-loop μ-loop
-add-others c = search needs
+add-count : tie.Need-add-count Inv-loop μ-loop
+add-count c = search needs
 
 add-i : tie.Need-add-i Inv-loop μ-loop
 add-i c = search needs
@@ -42,16 +41,16 @@ loop-again c =
     let a = c .before .before .before .before .before .args in
     let l = c .before .before .before .loop in
     let y = c .at-or-above in
-    (search needs, search needs, counts-on (l .others) (y .result) 1 (l .i) (a .ends .now) (omega arith) (l .inv .2) (y .ensures .0))
+    (search needs, search needs, counts-on (l .count) (y .result) 1 (l .i) (a .ends .now) (omega arith) (l .inv .2) (y .ensures .0))
 
 returns : tie.Need-returns Inv-loop μ-loop
 returns c =
     let a = c .before .before .before .args in
     let l = c .before .loop in
-    ap (λ n. eqb n 0) (counts-ends (l .others) 1 (l .i) (a .ends .now) (omega arith) (l .inv .2))
+    counts-ends (l .count) 1 (l .i) (a .ends .now) (omega arith) (l .inv .2)
 
-pub all-zero-spec : {M : Type 1} → statement M
-all-zero-spec =
+pub in-use-spec : {M : Type 1} → statement M
+in-use-spec =
     tie.close
     (tie.spec
     Inv-loop
@@ -60,7 +59,7 @@ all-zero-spec =
     mul-at-or-above
     shared-slice-read-at-or-above
     at-or-above-requires
-    add-others
+    add-count
     add-i
     loop-less
     loop-again
