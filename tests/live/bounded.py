@@ -18,7 +18,7 @@ faults = started.Faults("bounded")
 MOST = 65_536
 
 # what a fresh ledger tells, and a record of no bytes with its line: they fill up what is left of an input
-FRESH = b"highest 0 heard 0 missing 0 runs 0\nrun 0 23\n"
+FRESH = b"highest 0 heard 0 missing 0 runs 0 floor 0 given-up 0\nrun 0 23\n"
 NOTHING, NO_BYTES = b"\x00\x00", b"answer 2\n"
 
 
@@ -37,7 +37,7 @@ def record(frame):
 def arrivals():
     """Number 7 again and again, and what the ledger tells of it."""
     count = MOST // 2
-    told = b"7 new\n" + b"7 repeat\n" * (count - 1) + b"highest 7 heard 1 missing 6 runs 1\nrun 0 1-6\nrun 1 23\n"
+    told = b"7 new\n" + b"7 repeat\n" * (count - 1) + b"highest 7 heard 1 missing 6 runs 1 floor 0 given-up 0\nrun 0 1-6\nrun 1 23\n"
     return b"7\n" * count, told
 
 
@@ -46,7 +46,7 @@ def longest_lent():
     top = 99_999_999
     ends = range(top, top - 128, -1)
     runs = [(1, ends[-1])] + [(n, n) for n in reversed(ends[1:-1:2])]
-    told = f"lent 22\nhighest {top} heard 64 missing {top - 64} runs 64\n"
+    told = f"lent 22\nlent give-up 1-{ends[-1]}\nhighest {top} heard 64 missing {top - 64} runs 64 floor 0 given-up 0\n"
     told += "".join(f"run {place} {first}-{last}\n" for place, (first, last) in enumerate(runs)) + "run 64 23\n"
     line = " ".join(map(str, ends)) + "\n"
     given, printed = filled(line.encode(), told.encode(), b"\n", FRESH)

@@ -1,8 +1,10 @@
 // The report as text, a JSON object a line: some 4,000 bytes, so that it fits the output buffer whole.
-use crate::arrivals::Refusals;
+use crate::arrivals::Day;
 use ledger::Figure;
 use ledger::Ledger;
 use ledger::RunAt;
+use ledger_figures::floor;
+use ledger_figures::given_up;
 use ledger_figures::heard;
 use ledger_figures::highest;
 use ledger_figures::missing;
@@ -47,7 +49,7 @@ fn put_runs(out: &mut [u8], at: usize, l: Ledger) -> usize {
     to
 }
 
-// A key and a figure. A ledger that arrivals left has every figure.
+// A key and a figure. A ledger that a day leaves has every figure.
 fn put_figure(out: &mut [u8], at: usize, key: &[u8], f: Figure) -> usize {
     match f {
         Figure::Is(n) => put_count(out, at, key, n as u64),
@@ -60,16 +62,21 @@ fn put_figures(out: &mut [u8], at: usize, l: Ledger) -> usize {
     let most = highest(l);
     let there = heard(l);
     let gone = missing(l);
+    let below = floor(l);
+    let left = given_up(l);
     let at = put_figure(out, at, b"{\"highest\":", most);
     let at = put_figure(out, at, b",\"heard\":", there);
     let at = put_figure(out, at, b",\"missing\":", gone);
+    let at = put_figure(out, at, b",\"floor\":", below);
+    let at = put_figure(out, at, b",\"given_up\":", left);
     put_all(out, at, b"}\n")
 }
 
 // The whole report, and how many bytes it takes.
-pub(crate) fn put_report(out: &mut [u8], l: Ledger, s: Refusals) -> usize {
+pub(crate) fn put_report(out: &mut [u8], l: Ledger, d: Day) -> usize {
     let at = put_runs(out, 0, l);
-    let at = put_refused(out, at, 21, s.unnumbered);
-    let at = put_refused(out, at, 22, s.unheld);
+    let at = put_refused(out, at, 21, d.unnumbered);
+    let at = put_refused(out, at, 22, d.unheld);
+    let at = put_refused(out, at, 25, d.late);
     put_figures(out, at, l)
 }

@@ -4,11 +4,14 @@ use ledger::Figure;
 use ledger::Ledger;
 use ledger::RunAt;
 use ledger_arrivals::arrive;
+use ledger_figures::floor;
+use ledger_figures::given_up;
 use ledger_figures::heard;
 use ledger_figures::highest;
 use ledger_figures::missing;
 use ledger_figures::run;
 use ledger_figures::runs;
+use ledger_give_up::give_up;
 use printing::put;
 use printing::put_all;
 use printing::put_number;
@@ -55,6 +58,13 @@ fn put_found(out: &mut [u8], at: usize, found: RunAt) -> usize {
     }
 }
 
+// The run that was given up, or why there is none.
+pub(crate) fn put_give_up(out: &mut [u8], at: usize, answer: RunAt) -> usize {
+    let at = put_all(out, at, b"give-up");
+    let at = put_found(out, at, answer);
+    put(out, at, b'\n')
+}
+
 fn put_run(out: &mut [u8], at: usize, place: u32, found: RunAt) -> usize {
     let at = put_all(out, at, b"run");
     let at = put_spaced(out, at, place as u64);
@@ -81,20 +91,31 @@ fn put_runs(out: &mut [u8], at: usize, ledger: Ledger) -> usize {
     put_run(out, to, count, run(ledger, count))
 }
 
+// The floor and how many numbers were given up, at the end of a line.
+fn put_floor(out: &mut [u8], at: usize, ledger: Ledger) -> usize {
+    let at = put_figure(out, at, b" floor", floor(ledger));
+    let at = put_figure(out, at, b" given-up", given_up(ledger));
+    put(out, at, b'\n')
+}
+
 pub(crate) fn put_ledger(out: &mut [u8], at: usize, ledger: Ledger) -> usize {
     let at = put_figure(out, at, b"highest", highest(ledger));
     let at = put_figure(out, at, b" heard", heard(ledger));
     let at = put_figure(out, at, b" missing", missing(ledger));
     let at = put_figure(out, at, b" runs", runs(ledger));
-    let at = put(out, at, b'\n');
+    let at = put_floor(out, at, ledger);
     put_runs(out, at, ledger)
 }
 
-// What the calls answer to a record, the arrival of 3 first.
+// What the calls answer to a record, the arrival of 3 and giving up first.
 pub(crate) fn put_lent(out: &mut [u8], at: usize, record: Ledger) -> usize {
     let arrived = arrive(record, 3);
     let answer = arrived.answer;
     let at = put_all(out, at, b"lent");
     let at = put_answer(out, at, answer);
+    let gave_up = give_up(record);
+    let run = gave_up.answer;
+    let at = put_all(out, at, b"lent ");
+    let at = put_give_up(out, at, run);
     put_ledger(out, at, record)
 }

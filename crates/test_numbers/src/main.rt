@@ -1,14 +1,17 @@
-// Reads lines, 65,536 bytes at most. A number on a line arrives, and its answer is printed; at an empty line and at the end
-// stands what the ledger tells, and it is cleared. Numbers with spaces between are the ends of a record of their own, which is
-// lent to every call. tests/numbers/make.py makes the input.
+// Reads lines, 65,536 bytes at most. A number on a line arrives, and its answer is printed; a line with a g in it, as in give-up,
+// gives the lowest run up. At an empty line and at the end stands what the ledger tells, and it is cleared. Numbers with spaces
+// between are the ends of a record of their own, which is lent to every call; behind a slash stand its floor and how many numbers
+// were given up. tests/numbers/make.py makes the input.
 mod lines;
 mod streams;
 
 use ledger::Ledger;
 use ledger::clear;
 use ledger_arrivals::arrive;
+use ledger_give_up::give_up;
 use libc::STDERR_FILENO;
 use lines::put_arrival;
+use lines::put_give_up;
 use lines::put_ledger;
 use lines::put_lent;
 use streams::Input;
@@ -17,11 +20,21 @@ use streams::MUCH;
 use streams::read_all;
 use streams::written;
 
-// The ledger, and the line so far: the ends of a record and how many they are, then a number, if it has a digit.
+// The places of a record's numbers: its ends stand below this one, and nothing stands here.
+const ENDS: usize = 129;
+
+// The floor, and how many numbers were given up: the next ones behind a slash.
+const FLOOR: usize = 130;
+
+const GIVEN: usize = 131;
+
+// The ledger, and the line so far: whether it gives up, a record and the place of its next number, then a number, if it has a
+// digit.
 struct State {
     ledger: Ledger,
+    gives_up: bool,
     record: Ledger,
-    count: usize,
+    place: usize,
     started: bool,
     number: u32,
     // how many bytes of text wait in the output buffer
@@ -33,36 +46,81 @@ fn line(ledger: Ledger, to: usize) -> State {
     let record = clear();
     State {
         ledger,
+        gives_up: false,
         record,
-        count: 0,
+        place: 0,
         started: false,
         number: 0,
         to,
     }
 }
 
-// The number so far is an end of a record.
+// A record with a number at its place.
+fn with_number(record: Ledger, place: usize, n: u32) -> Ledger {
+    let mut record = record;
+    if place < ENDS {
+        record.ends[place] = n;
+        return record;
+    }
+    if place == FLOOR {
+        record.floor = n;
+        return record;
+    }
+    if place == GIVEN {
+        record.given = n;
+        return record;
+    }
+    record
+}
+
+// The place behind another; nothing stands behind the last end without a slash, nor behind what was given up.
+fn behind(place: usize) -> usize {
+    if place == ENDS {
+        return place;
+    }
+    if GIVEN < place {
+        return place;
+    }
+    place + 1
+}
+
+// The number so far, if there is one, is one of a record.
 fn end_number(state: State) -> State {
-    let ledger = state.ledger;
-    let mut record = state.record;
-    let at = state.count;
-    if at >= 129 {
+    if !state.started {
         return state;
     }
-    record.ends[at] = state.number;
-    State {
-        ledger,
-        record,
-        count: at + 1,
-        started: false,
-        number: 0,
-        to: state.to,
-    }
+    let mut state = state;
+    let record = state.record;
+    state.record = with_number(record, state.place, state.number);
+    state.place = behind(state.place);
+    state.started = false;
+    state.number = 0;
+    state
+}
+
+// The next number of the record is its floor.
+fn end_ends(state: State) -> State {
+    let mut state = end_number(state);
+    state.place = FLOOR;
+    state
+}
+
+// A line that gives up.
+fn end_give_up(out: &mut [u8], state: State) -> State {
+    let before = state.ledger;
+    let gave_up = give_up(before);
+    let ledger = gave_up.ledger;
+    let answer = gave_up.answer;
+    let to = put_give_up(out, state.to, answer);
+    line(ledger, to)
 }
 
 fn end_line(out: &mut [u8], state: State) -> State {
+    if state.gives_up {
+        return end_give_up(out, state);
+    }
     let before = state.ledger;
-    if state.count != 0 {
+    if state.place != 0 {
         let ended = end_number(state);
         let record = ended.record;
         let to = put_lent(out, state.to, record);
@@ -81,19 +139,13 @@ fn end_line(out: &mut [u8], state: State) -> State {
 
 // A digit more, up to nine of them.
 fn add_digit(state: State, digit: u8) -> State {
-    let ledger = state.ledger;
-    let record = state.record;
     if state.number >= 100_000_000 {
         return state;
     }
-    State {
-        ledger,
-        record,
-        count: state.count,
-        started: true,
-        number: state.number * 10 + (digit as u32),
-        to: state.to,
-    }
+    let mut state = state;
+    state.started = true;
+    state.number = state.number * 10 + (digit as u32);
+    state
 }
 
 fn take_byte(out: &mut [u8], state: State, b: u8) -> State {
@@ -102,6 +154,14 @@ fn take_byte(out: &mut [u8], state: State, b: u8) -> State {
     }
     if b == b' ' {
         return end_number(state);
+    }
+    if b == b'/' {
+        return end_ends(state);
+    }
+    if b == b'g' {
+        let mut state = state;
+        state.gives_up = true;
+        return state;
     }
     if b < 48 {
         return state;

@@ -6,13 +6,16 @@ use Rattle.program_gaps.proofs.hear.Statement.{statement}
 use Rattle.program_gaps.proofs.hear.Tie as tie
 
 abbrev Inv-loop : tie.InvT-loop
-Inv-loop buf₀ out ends₀ refusals₀ s₀ turns₀ buf ends refusals s turns = (length buf ≡ length buf₀) × (length ends ≡ length ends₀)
+Inv-loop buf₀ out ends₀ gives_up day₀ s₀ turns₀ buf ends day s turns = (length buf ≡ length buf₀) × (length ends ≡ length ends₀)
 
 abbrev μ-loop : tie.MeasureT-loop
-μ-loop buf₀ out ends₀ refusals₀ s₀ turns₀ buf ends refusals s turns = turns
+μ-loop buf₀ out ends₀ gives_up day₀ s₀ turns₀ buf ends day s turns = turns
 
 fresh-requires : tie.Need-fresh-requires Inv-loop μ-loop
 fresh-requires c κs = search needs
+
+fresh-requires-2 : tie.Need-fresh-requires-2 Inv-loop μ-loop
+fresh-requires-2 c κs = search needs
 
 loop-holds : tie.Need-loop-holds Inv-loop μ-loop
 loop-holds c = search needs
@@ -75,6 +78,7 @@ hear-spec =
     Inv-loop
     μ-loop
     fresh-requires
+    fresh-requires-2
     loop-holds
     next-frame-requires
     enum-known-later

@@ -37,7 +37,9 @@ returns : tie.Need-returns Inv-loop μ-loop
 returns c = search needs
 
 add-i : tie.Need-add-i Inv-loop μ-loop
-add-i c = search needs
+add-i c =
+    let start = c .before .before .before .before .before .before .before .before .before .before .before .before .before in
+    search (needs, start .args .input)
 
 loop-less : tie.Need-loop-less Inv-loop μ-loop
 loop-less c = search needs
