@@ -1,4 +1,4 @@
-//! Reads series of arrivals from standard input, a number a line, and prints what a ledger says of them.
+//! Reads series of arrivals and give-ups from standard input, one a line, and prints what a ledger says of them.
 
 use std::io::{self, BufWriter};
 
