@@ -1,11 +1,13 @@
 //! The comparison: generated lines and series, what the proved programs print of them, and what this package does, row by
 //! row.
 
+use std::fmt;
 use std::fs::{self, File};
 use std::io;
 use std::path::{Path, PathBuf};
 use std::process::{Command, Stdio};
 
+use crate::gaps::WhenFull;
 use crate::generate::Generator;
 use crate::reading::read_at;
 use crate::seen::{around, Seen};
@@ -26,20 +28,37 @@ enum Given {
     Series,
 }
 
-/// A program by its name, and what this package does for the same.
+/// A program by its name and the words behind it, and what this package does for the same.
 struct Program {
-    name: &'static str,
+    call: &'static [&'static str],
     given: Given,
     own: fn(&[u8], &mut Vec<u8>) -> io::Result<()>,
 }
 
-const PROGRAMS: [Program; 5] = [
-    Program { name: "listing", given: Given::Line, own: |input, output| listing::list(input, output) },
-    Program { name: "messages", given: Given::Line, own: |input, output| messages::tell(input, output) },
-    Program { name: "gaps", given: Given::Line, own: |input, output| gaps::tell(input, output) },
-    Program { name: "board", given: Given::Line, own: |input, output| board::tell(input, output) },
-    Program { name: "numbers", given: Given::Series, own: |input, output| numbers::tell(input, output) },
+const PROGRAMS: [Program; 6] = [
+    Program { call: &["listing"], given: Given::Line, own: |input, output| listing::list(input, output) },
+    Program { call: &["messages"], given: Given::Line, own: |input, output| messages::tell(input, output) },
+    Program { call: &["gaps"], given: Given::Line, own: |input, output| gaps::tell(input, output, WhenFull::Refuse) },
+    Program {
+        call: &["gaps", "give-up"],
+        given: Given::Line,
+        own: |input, output| gaps::tell(input, output, WhenFull::GiveUp),
+    },
+    Program { call: &["board"], given: Given::Line, own: |input, output| board::tell(input, output) },
+    Program { call: &["numbers"], given: Given::Series, own: |input, output| numbers::tell(input, output) },
 ];
+
+impl Program {
+    fn name(&self) -> &'static str {
+        self.call[0]
+    }
+}
+
+impl fmt::Display for Program {
+    fn fmt(&self, f: &mut fmt::Formatter) -> fmt::Result {
+        f.write_str(&self.call.join(" "))
+    }
+}
 
 /// A comparison with the programs of one repository.
 pub struct Comparison {
@@ -53,7 +72,7 @@ impl Comparison {
     pub fn new(trivsome: &Path) -> Result<Comparison, String> {
         let trivsome = trivsome.canonicalize().map_err(|why| format!("{}: {why}", trivsome.display()))?;
         let names = names(&trivsome)?;
-        if !PROGRAMS.iter().any(|program| names.iter().any(|name| name == program.name)) {
+        if !PROGRAMS.iter().any(|program| names.iter().any(|name| name == program.name())) {
             return Err(format!("{} has no program to compare", trivsome.display()));
         }
         let folder = std::env::temp_dir().join(format!("compare-{}", std::process::id()));
@@ -65,7 +84,7 @@ impl Comparison {
     /// gives the first difference.
     pub fn run(&self, seed: u64, frames: usize) -> Result<(), String> {
         if let Some(program) = PROGRAMS.iter().find(|program| frames >= ENOUGH && !self.has(program)) {
-            return Err(format!("{} --help lists no program {}", self.trivsome.display(), program.name));
+            return Err(format!("{} --help lists no program {}", self.trivsome.display(), program.name()));
         }
         let mut generator = Generator::new(seed);
         let mut seen = Seen::default();
@@ -88,9 +107,9 @@ impl Comparison {
         println!("{frames} frames and {lines} lines, {bytes} bytes\n{seen}");
         for (program, rows) in PROGRAMS.iter().zip(rows) {
             if self.has(program) {
-                println!("{}: {rows} rows, all the same", program.name);
+                println!("{program}: {rows} rows, all the same");
             } else {
-                println!("{}: not there to be compared", program.name);
+                println!("{program}: not there to be compared");
             }
         }
         if frames >= ENOUGH && !seen.is_all() {
@@ -105,14 +124,14 @@ impl Comparison {
     }
 
     fn has(&self, program: &Program) -> bool {
-        self.names.iter().any(|name| name == program.name)
+        self.names.iter().any(|name| name == program.name())
     }
 
     /// Compares the programs that are there and take such an input, and counts their rows.
     fn compare_all(&self, given: Given, input: &[u8], rows: &mut [usize]) -> Result<(), String> {
         for (program, rows) in PROGRAMS.iter().zip(rows) {
             if program.given == given && self.has(program) {
-                *rows += self.compare(program, input).map_err(|what| format!("{}: {what}", program.name))?;
+                *rows += self.compare(program, input).map_err(|what| format!("{program}: {what}"))?;
             }
         }
         Ok(())
@@ -122,12 +141,12 @@ impl Comparison {
     fn compare(&self, program: &Program, input: &[u8]) -> Result<usize, String> {
         let mut own = Vec::new();
         (program.own)(input, &mut own).map_err(|why| why.to_string())?;
-        let proved = self.proved(program.name, input)?;
+        let proved = self.proved(program, input)?;
         if own == proved {
             return Ok(rows(&own).len());
         }
         let mut text = difference(program.given, input, &own, &proved);
-        let kept = self.folder.with_extension(program.name);
+        let kept = self.folder.with_extension(program.name());
         if fs::write(&kept, input).is_ok() {
             text += &format!("\nthe input is kept as {}", kept.display());
         }
@@ -135,18 +154,18 @@ impl Comparison {
     }
 
     /// What the proved program prints.
-    fn proved(&self, name: &str, input: &[u8]) -> Result<Vec<u8>, String> {
+    fn proved(&self, program: &Program, input: &[u8]) -> Result<Vec<u8>, String> {
         let (from, to) = (self.folder.join("input"), self.folder.join("output"));
         let run = || -> io::Result<_> {
             fs::write(&from, input)?;
             let mut command = Command::new(&self.trivsome);
-            let status = command.arg(name).stdin(File::open(&from)?).stdout(File::create(&to)?).status()?;
+            let status = command.args(program.call).stdin(File::open(&from)?).stdout(File::create(&to)?).status()?;
             Ok((status, fs::read(&to)?))
         };
         match run() {
             Ok((status, output)) if status.success() => Ok(output),
-            Ok((status, _)) => Err(format!("{} {name}: {status}", self.trivsome.display())),
-            Err(why) => Err(format!("{} {name}: {why}", self.trivsome.display())),
+            Ok((status, _)) => Err(format!("{} {program}: {status}", self.trivsome.display())),
+            Err(why) => Err(format!("{} {program}: {why}", self.trivsome.display())),
         }
     }
 }

@@ -3,34 +3,56 @@
 
 use std::io::{self, Read, Write};
 
-use crate::ledger::{Ledger, Refusal};
+use crate::ledger::{Arrival, Ledger, Refusal};
 use crate::pieces::each_move;
 use crate::reading::Message;
 
+/// What is done about a number for which the ledger has no room.
+#[derive(Clone, Copy, Debug, PartialEq, Eq)]
+pub enum WhenFull {
+    /// It is refused.
+    Refuse,
+    /// The lowest missing run is given up, and the number arrives again.
+    GiveUp,
+}
+
+/// The refusals that are told, in the order of their answers.
+const REFUSALS: [Refusal; 3] = [Refusal::Number, Refusal::Full, Refusal::Floor];
+
+/// Records that a number has come, and makes room for it where it is wanted.
+pub fn hear(ledger: &mut Ledger, number: u32, when_full: WhenFull) -> Result<Arrival, Refusal> {
+    let mut answer = ledger.arrival(number);
+    while when_full == WhenFull::GiveUp && answer == Err(Refusal::Full) {
+        ledger.give_up()?;
+        answer = ledger.arrival(number);
+    }
+    answer
+}
+
 /// Reads the input to its end and writes the missing runs, the refusals that occurred, and the figures.
-pub fn tell<R: Read, W: Write>(input: R, mut output: W) -> io::Result<()> {
+pub fn tell<R: Read, W: Write>(input: R, mut output: W, when_full: WhenFull) -> io::Result<()> {
     let mut ledger = Ledger::FRESH;
-    let refusals = [Refusal::Number, Refusal::Full];
-    let mut times: [u64; 2] = [0; 2];
+    let mut times: [u64; 3] = [0; 3];
     each_move(input, |_, answer, _| {
         if let Some(Message::Six(quote)) = answer.message() {
-            if let Err(why) = ledger.arrival(quote.number) {
-                let place = refusals.iter().position(|refusal| *refusal == why);
-                times[place.expect("a ledger of arrivals is never refused with 20")] += 1;
+            if let Err(why) = hear(&mut ledger, quote.number, when_full) {
+                let place = REFUSALS.iter().position(|refusal| *refusal == why);
+                times[place.expect("a ledger of arrivals and give-ups is never refused with 20")] += 1;
             }
         }
         Ok(())
     })?;
     for run in &ledger.runs[..ledger.count] {
-        let count = run.last - run.first + 1;
-        writeln!(output, "{{\"first\":{},\"last\":{},\"count\":{count}}}", run.first, run.last)?;
+        writeln!(output, "{{\"first\":{},\"last\":{},\"count\":{}}}", run.first, run.last, run.length())?;
     }
-    for (refusal, times) in refusals.iter().zip(times) {
+    for (refusal, times) in REFUSALS.iter().zip(times) {
         if times > 0 {
             writeln!(output, "{{\"refused\":{},\"count\":{times}}}", refusal.number())?;
         }
     }
-    let (highest, heard) = (ledger.highest, ledger.heard);
-    writeln!(output, "{{\"highest\":{highest},\"heard\":{heard},\"missing\":{}}}", highest - heard)?;
+    let Ledger { highest, heard, floor, given_up, .. } = ledger;
+    let missing = highest - heard - given_up;
+    write!(output, "{{\"highest\":{highest},\"heard\":{heard},\"missing\":{missing},")?;
+    writeln!(output, "\"floor\":{floor},\"given_up\":{given_up}}}")?;
     output.flush()
 }

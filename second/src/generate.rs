@@ -3,6 +3,7 @@
 //!
 //! Frames are put together here digit by digit, without the writing, so that the writing is tried on them too.
 
+use crate::gaps::WhenFull;
 use crate::random::Random;
 use crate::reading::Message;
 use crate::series::Series;
@@ -110,13 +111,13 @@ pub struct Generator {
 
 impl Generator {
     pub fn new(seed: u64) -> Generator {
-        Generator { random: Random::new(seed), quotes: Series::default(), stocks: Vec::new() }
+        Generator { random: Random::new(seed), quotes: Series::new(WhenFull::Refuse), stocks: Vec::new() }
     }
 
     /// A closed line of so many frames, whole or damaged, with noise between them. At its end a frame is cut. The numbers of
-    /// format six start anew, and its stocks are others.
+    /// format six start anew, for a ledger that gives runs up or one that does not, and its stocks are others.
     pub fn line(&mut self, frames: usize) -> Vec<u8> {
-        self.quotes = Series::default();
+        self.quotes = Series::new(self.random.pick(&[WhenFull::Refuse, WhenFull::GiveUp]));
         self.stocks = (0..self.random.pick(&STOCKS)).map(|_| self.code()).collect();
         let mut line = Vec::new();
         for _ in 1..frames {
@@ -128,7 +129,7 @@ impl Generator {
             };
             for step in walk(&piece, Line::Closed) {
                 if let Some(Message::Six(quote)) = step.answer.message() {
-                    self.quotes.came(quote.number);
+                    let _ = self.quotes.came(quote.number);
                 }
             }
             line.extend(piece);

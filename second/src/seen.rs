@@ -5,6 +5,7 @@ use std::collections::BTreeMap;
 use std::fmt;
 
 use crate::board::{self, Row};
+use crate::gaps::{hear, WhenFull};
 use crate::ledger::{Arrival, Ledger, Refusal};
 use crate::outline::HEAD;
 use crate::reading::{self, read_at, Answer, Message};
@@ -30,6 +31,10 @@ pub struct Seen {
     pub shown: [u64; 3],
     /// Arrivals of format six that are new and repeated ones, and those refused with 21 and with 22.
     pub arrivals: [u64; 4],
+    /// The same where a full ledger gives runs up: new and repeated ones, and those refused with 21 and with 25.
+    pub above_floor: [u64; 4],
+    /// How many runs it gave up.
+    pub given_up: u64,
     /// Quotes that a clear board took, that were the day's last frame, and those refused with 52.
     pub taken: [u64; 3],
     /// Those taken whose levels are not shown: on a row with levels, on one without, and on one that was free.
@@ -44,7 +49,7 @@ pub struct Seen {
 impl Seen {
     /// Adds what occurs on a closed line. Gives the first frame that is not the same when it is written back.
     pub fn line(&mut self, line: &[u8]) -> Result<(), String> {
-        let mut ledger = Ledger::FRESH;
+        let (mut full, mut above_floor) = (Ledger::FRESH, Ledger::FRESH);
         let mut rows = board::CLEAR;
         let mut quotes: BTreeMap<Code, Vec<Quote>> = BTreeMap::new();
         for step in walk(line, Line::Closed) {
@@ -63,7 +68,8 @@ impl Seen {
                 };
                 self.formats[format] += 1;
                 if let Message::Six(quote) = message {
-                    self.arrival(&mut ledger, quote)?;
+                    self.arrivals[arrival_case(full.arrival(quote.number))?] += 1;
+                    self.giving_up(&mut above_floor, quote.number)?;
                     self.take(&mut rows, quote)?;
                     quotes.entry(quote.code).or_default().push(*quote);
                 }
@@ -75,15 +81,11 @@ impl Seen {
         Ok(())
     }
 
-    /// Adds the arrival of a quote's number.
-    fn arrival(&mut self, ledger: &mut Ledger, quote: &Quote) -> Result<(), String> {
-        self.arrivals[match ledger.arrival(quote.number) {
-            Ok(Arrival::New) => 0,
-            Ok(Arrival::Repeat) => 1,
-            Err(Refusal::Number) => 2,
-            Err(Refusal::Full) => 3,
-            Err(why) => return Err(format!("a ledger of arrivals answers {}", why.number())),
-        }] += 1;
+    /// Adds the arrival of a number at a ledger that gives runs up.
+    fn giving_up(&mut self, ledger: &mut Ledger, number: u32) -> Result<(), String> {
+        let floor = ledger.floor;
+        self.above_floor[arrival_case(hear(ledger, number, WhenFull::GiveUp))?] += 1;
+        self.given_up += u64::from(ledger.floor != floor);
         Ok(())
     }
 
@@ -133,7 +135,8 @@ impl Seen {
     pub fn is_all(&self) -> bool {
         let of_frames = self.answers.iter().chain(&self.levels).chain(&self.formats).chain(&self.shown);
         let of_boards = self.taken.iter().chain(&self.kept).chain(&self.rows).chain(&self.sides);
-        of_frames.chain(&self.arrivals).chain(of_boards).all(|&times| times > 0)
+        let of_ledgers = self.arrivals.iter().chain(&self.above_floor).chain([&self.given_up]);
+        of_frames.chain(of_ledgers).chain(of_boards).all(|&times| times > 0)
     }
 }
 
@@ -151,6 +154,9 @@ impl fmt::Display for Seen {
         cases(f, &SHOWN, &self.shown)?;
         let [new, repeat, number, full] = self.arrivals;
         write!(f, "\nnumbers of format six: new {new}, repeat {repeat}, 21 {number}, 22 {full}")?;
+        let [new, repeat, number, floor] = self.above_floor;
+        write!(f, "; with {} runs given up: new {new}, repeat {repeat}, ", self.given_up)?;
+        write!(f, "21 {number}, 25 {floor}")?;
         let [taken, last, full] = self.taken;
         write!(f, "\nboards: taken {taken}, the day's last {last}, 52 {full}; ")?;
         let [kept, empty, new] = self.kept;
@@ -167,6 +173,17 @@ impl fmt::Display for Seen {
 pub fn cases(f: &mut fmt::Formatter, names: &[&str], times: &[u64]) -> fmt::Result {
     let shown: Vec<_> = names.iter().zip(times).map(|(name, times)| format!("{name} {times}")).collect();
     f.write_str(&shown.join(", "))
+}
+
+/// Which case an arrival is. A ledger that gives runs up never refuses with 22, and one that does not never with 25.
+fn arrival_case(answer: Result<Arrival, Refusal>) -> Result<usize, String> {
+    match answer {
+        Ok(Arrival::New) => Ok(0),
+        Ok(Arrival::Repeat) => Ok(1),
+        Err(Refusal::Number) => Ok(2),
+        Err(Refusal::Full | Refusal::Floor) => Ok(3),
+        Err(why) => Err(format!("a ledger of arrivals answers {}", why.number())),
+    }
 }
 
 /// Which case a frame is that is refused with 10.

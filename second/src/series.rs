@@ -1,9 +1,10 @@
-//! Series of frame numbers for the comparison of ledgers: in order, with gaps, late, twice, and with more runs than there is
-//! room for.
+//! Series of frame numbers for the comparison of ledgers: in order, with gaps, late, twice, with more runs than there is room
+//! for, and below what was given up.
 
 use std::fmt::Write;
 
-use crate::ledger::{Ledger, GREATEST_NUMBER, MOST_RUNS};
+use crate::gaps::{hear, WhenFull};
+use crate::ledger::{Arrival, Ledger, Refusal, GREATEST_NUMBER, MOST_RUNS};
 use crate::random::Random;
 
 /// The most bytes of one text: the proved program reads no more than 65,536.
@@ -20,17 +21,16 @@ enum Phase {
 /// A series over a ledger of its own, by which it knows what is missing.
 pub struct Series {
     ledger: Ledger,
+    when_full: WhenFull,
     phase: Phase,
     left: usize,
 }
 
-impl Default for Series {
-    fn default() -> Series {
-        Series { ledger: Ledger::FRESH, phase: Phase::Order, left: 10 }
-    }
-}
-
 impl Series {
+    pub fn new(when_full: WhenFull) -> Series {
+        Series { ledger: Ledger::FRESH, when_full, phase: Phase::Order, left: 10 }
+    }
+
     /// The next number, 0 to 99,999,999.
     pub fn next(&mut self, random: &mut Random) -> u32 {
         if self.left == 0 {
@@ -52,11 +52,12 @@ impl Series {
             Phase::Gaps => match random.below(10) {
                 0 => highest + 1,
                 1 => self.late(random),
-                _ => highest + 2 + random.below(3) as u32,
+                _ => highest + 2 + random.pick(&[0, 1, 2, 9]),
             },
             Phase::Late => match random.below(30) {
                 0 => highest + 1,
                 1 => self.heard_before(random),
+                2 => self.near_floor(random),
                 _ => self.late(random),
             },
             Phase::Mixed => match random.below(8) {
@@ -66,6 +67,7 @@ impl Series {
                 3 => highest + 2 + random.below(20) as u32,
                 4 if random.one_in(50) => highest + random.below(100_000) as u32,
                 5 if random.one_in(500) => random.amount(u64::from(GREATEST_NUMBER)) as u32,
+                6 => self.near_floor(random),
                 _ => highest + 1,
             },
         };
@@ -73,8 +75,18 @@ impl Series {
     }
 
     /// Records that a number came, so that the next one goes on from there.
-    pub fn came(&mut self, number: u32) {
-        let _ = self.ledger.arrival(number);
+    pub fn came(&mut self, number: u32) -> Result<Arrival, Refusal> {
+        hear(&mut self.ledger, number, self.when_full)
+    }
+
+    /// The next number, or one outside the allowed numbers.
+    fn any(&mut self, random: &mut Random) -> u32 {
+        match random.below(100) {
+            0 => 0,
+            1 => 100_000_000 + random.amount(899_999_999) as u32,
+            2 if random.one_in(20) => random.pick(&[99_999_998, 99_999_999]),
+            _ => self.next(random),
+        }
     }
 
     /// Anything up to the highest, mostly heard already.
@@ -86,14 +98,24 @@ impl Series {
         }
     }
 
-    /// A missing number: a run's first, last or any; often of the shortest run, so that runs are filled.
+    /// The floor, or a few numbers below it or above.
+    fn near_floor(&self, random: &mut Random) -> u32 {
+        (self.ledger.floor + 3).saturating_sub(random.below(10) as u32)
+    }
+
+    /// A missing number: a run's first, last or any; often of the shortest run, so that runs are filled, and of the lowest,
+    /// which is given up first.
     fn late(&self, random: &mut Random) -> u32 {
         let runs = &self.ledger.runs[..self.ledger.count];
         if runs.is_empty() {
             return self.ledger.highest + 1;
         }
         let shortest = runs.iter().min_by_key(|run| run.last - run.first).copied().unwrap_or_default();
-        let run = if random.one_in(3) { random.pick(runs) } else { shortest };
+        let run = match random.below(6) {
+            0 | 1 => random.pick(runs),
+            2 => runs[0],
+            _ => shortest,
+        };
         let splits = if self.ledger.count == MOST_RUNS { 4 } else { 40 };
         match random.below(splits) {
             0 => run.first + random.below(u64::from(run.last - run.first) + 1) as u32,
@@ -129,15 +151,10 @@ pub fn texts(seed: u64, arrivals: usize) -> Vec<String> {
 
 /// A series of so many arrivals, some of them outside the allowed numbers.
 pub fn arrivals(random: &mut Random, length: usize) -> Vec<u32> {
-    let mut series = Series::default();
+    let mut series = Series::new(WhenFull::Refuse);
     let mut one = || {
-        let number = match random.below(100) {
-            0 => 0,
-            1 => 100_000_000 + random.amount(899_999_999) as u32,
-            2 if random.one_in(20) => random.pick(&[99_999_998, 99_999_999]),
-            _ => series.next(random),
-        };
-        series.came(number);
+        let number = series.any(random);
+        let _ = series.came(number);
         number
     };
     (0..length).map(|_| one()).collect()

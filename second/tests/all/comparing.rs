@@ -20,7 +20,7 @@ fn script(listed: &str, behind: &str) -> PathBuf {
     ];
     let mut text = format!("#!/bin/sh\ncase $1 in\n--help) echo 'Usage: this'; printf '  %s words\\n' {listed} ;;\n");
     for (program, path) in programs {
-        text += &format!("{program}) '{path}' | {behind} ;;\n");
+        text += &format!("{program}) shift; '{path}' \"$@\" | {behind} ;;\n");
     }
     text += "*) exit 2 ;;\nesac\n";
     let path = std::env::temp_dir().join(format!("second-{}", std::process::id()));
@@ -47,7 +47,7 @@ fn compare(listed: &str, behind: &str, frames: &str) -> (Option<i32>, String) {
 fn the_same() {
     let (status, text) = compare("listing messages gaps board numbers", "cat", "300");
     assert_eq!(status, Some(0), "{text}");
-    for program in ["listing", "messages", "gaps", "board", "numbers"] {
+    for program in ["listing", "messages", "gaps", "gaps give-up", "board", "numbers"] {
         assert!(text.lines().any(|line| line.starts_with(&format!("{program}: ")) && line.ends_with(" all the same")));
     }
 }
@@ -57,7 +57,7 @@ fn only_what_is_listed() {
     let (status, text) = compare("worked gaps", "cat", "30");
     assert_eq!(status, Some(0), "{text}");
     assert!(text.contains("listing: not there to be compared\n"));
-    assert_eq!(text.matches("all the same").count(), 1);
+    assert_eq!(text.matches("all the same").count(), 2, "gaps, and gaps that gives runs up");
     assert_eq!(compare("worked", "cat", "30").0, Some(1));
     let (status, text) = compare("worked gaps", "cat", "100000");
     assert_eq!(status, Some(1), "{text}");
@@ -84,4 +84,13 @@ fn a_difference() {
         assert!(row("  second: ").contains(second), "{text}");
         assert_eq!(text.contains("\nfrom "), program == "messages", "{text}");
     }
+}
+
+#[test]
+fn a_difference_where_runs_are_given_up() {
+    // Only with give-up are numbers refused with 25, once the ledger was full.
+    let (status, text) = compare("gaps", "sed 's/\"refused\":25/\"refused\":22/'", "25000");
+    assert_eq!(status, Some(1), "{text}");
+    assert!(text.contains("line 1: gaps give-up: row "), "{text}");
+    assert!(text.contains("\n  second: {\"refused\":25,"), "{text}");
 }

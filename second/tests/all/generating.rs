@@ -48,6 +48,7 @@ fn every_answer_occurs() {
     assert!(seen.is_all(), "{seen}");
     assert_eq!(seen.answers[0], seen.formats.iter().sum());
     assert_eq!(seen.formats[1], seen.arrivals.iter().sum());
+    assert_eq!(seen.formats[1], seen.above_floor.iter().sum());
     assert_eq!(seen.formats[1], seen.taken.iter().sum());
     assert_eq!(seen.formats[1], seen.shown.iter().sum());
     assert_eq!(seen.answers[10], seen.levels.iter().sum());
