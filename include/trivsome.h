@@ -31,10 +31,12 @@
  *   walking a tally           0  done
  *                            16  a figure would pass the largest number
  *   the ledger                0  done
- *                            20  the record is damaged: no arrivals leave it so
+ *                            20  the record is damaged: no arrivals and give-ups leave it so
  *                            21  the number is 0 or above 99,999,999
  *                            22  there would be more than 64 missing runs
  *                            23  there is no run at this place
+ *                            24  there is no missing run to give up
+ *                            25  the number is at or below the floor
  *   the board                 0  done
  *                            50  heads or cells of another number were lent
  *                            51  no row has this code, or there is none at this place
@@ -95,10 +97,11 @@ static inline uint32_t trivsome_seq(uint64_t outcome) { return (uint32_t)(outcom
 /* Of an arrival: the number is new. An answer of 0 that is not new is a repeat. */
 static inline bool trivsome_is_new(uint64_t outcome) { return outcome == 256; }
 
-/* Of trivsome_ledger_highest, _heard, _missing and _runs, and of trivsome_board_in_use: the figure, where the answer is 0. */
+/* Of trivsome_ledger_highest, _heard, _missing, _runs, _floor and _given_up, and of trivsome_board_in_use: the figure, where the
+ * answer is 0. */
 static inline uint32_t trivsome_figure(uint64_t outcome) { return (uint32_t)(outcome >> 8); }
 
-/* Of trivsome_ledger_run: the run's first and last number, where the answer is 0. */
+/* Of trivsome_ledger_run and trivsome_ledger_give_up: the run's first and last number, where the answer is 0. */
 static inline uint32_t trivsome_first(uint64_t outcome) { return (uint32_t)(outcome >> 8 & 0xFFFFFFF); }
 static inline uint32_t trivsome_last(uint64_t outcome) { return (uint32_t)(outcome >> 36); }
 
@@ -222,14 +225,18 @@ uint64_t trivsome_move(const uint8_t *line, size_t length, size_t at, bool close
  * walk's. 0 or 16. See trivsome_walk_line below. */
 uint64_t trivsome_walk(uint64_t tally[4], const uint8_t *line, size_t length, bool closed);
 
-/* The ledger, by the ends in its record. See trivsome_ledger below, and the calls that take one. */
-void trivsome_clear(uint32_t ends[129]);
-uint64_t trivsome_arrive(uint32_t ends[129], uint32_t n);
-uint64_t trivsome_highest(const uint32_t ends[129]);
-uint64_t trivsome_heard(const uint32_t ends[129]);
-uint64_t trivsome_missing(const uint32_t ends[129]);
-uint64_t trivsome_runs(const uint32_t ends[129]);
-uint64_t trivsome_run(const uint32_t ends[129], uint32_t place);
+/* The ledger, by the ends in its record, its floor, and how many numbers were given up. See trivsome_ledger below, and the calls
+ * that take one. */
+void trivsome_clear(uint32_t ends[129], uint32_t *floor, uint32_t *given_up);
+uint64_t trivsome_arrive(uint32_t ends[129], uint32_t floor, uint32_t given_up, uint32_t n);
+uint64_t trivsome_give_up(uint32_t ends[129], uint32_t *floor, uint32_t *given_up);
+uint64_t trivsome_highest(const uint32_t ends[129], uint32_t floor, uint32_t given_up);
+uint64_t trivsome_heard(const uint32_t ends[129], uint32_t floor, uint32_t given_up);
+uint64_t trivsome_missing(const uint32_t ends[129], uint32_t floor, uint32_t given_up);
+uint64_t trivsome_runs(const uint32_t ends[129], uint32_t floor, uint32_t given_up);
+uint64_t trivsome_floor(const uint32_t ends[129], uint32_t floor, uint32_t given_up);
+uint64_t trivsome_given_up(const uint32_t ends[129], uint32_t floor, uint32_t given_up);
+uint64_t trivsome_run(const uint32_t ends[129], uint32_t floor, uint32_t given_up, uint32_t place);
 
 /* The board, by its heads and its cells: each call answers 50 unless there are TRIVSOME_BOARD_ROWS heads and
  * TRIVSOME_BOARD_CELLS cells. See trivsome_board below, and the calls that take one. The numbers of a row are those of a quote;
@@ -434,30 +441,71 @@ static inline uint64_t trivsome_walk_line(trivsome_tally *tally, const uint8_t *
 
 /* A ledger of the numbers that arrived today in one format. All zeros are a fresh one: trivsome_ledger ledger = {0}.
  *
- * It is 129 numbers of 32 bits and nothing else, so one machine keeps it in a file by fwrite and fread of the whole struct;
- * between machines write each number in an order of bytes that is the same on both. What is read back may be any numbers: where
- * no arrivals leave such a record every call but the clearing answers 20, and changes nothing. Damage that makes it the record
- * of other arrivals is not seen. */
+ * It is 131 numbers of 32 bits and nothing else, so one machine keeps it in a file by fwrite and fread of the whole struct;
+ * between machines write each number in an order of bytes that is the same on both. A record that the version before has kept,
+ * of 129 numbers, is the same ledger with two zeros behind it: read it into a ledger of zeros. What is read back may be any
+ * numbers: where no arrivals and give-ups leave such a record every call but the clearing answers 20, and changes nothing. Damage
+ * that makes it the record of other arrivals and give-ups is not seen. */
 typedef struct {
     uint32_t ends[129];
+    uint32_t floor;    /* up to here the missing numbers were given up; 0 where none were */
+    uint32_t given_up; /* how many they are */
 } trivsome_ledger;
 
-/* Makes any ledger a fresh one; nothing is heard. */
-static inline void trivsome_ledger_clear(trivsome_ledger *ledger) { trivsome_clear(ledger->ends); }
+/* Makes any ledger a fresh one; nothing is heard, and nothing given up. */
+static inline void trivsome_ledger_clear(trivsome_ledger *ledger)
+{
+    trivsome_clear(ledger->ends, &ledger->floor, &ledger->given_up);
+}
 
-/* Records a number: 0 (new, or a repeat: trivsome_is_new), 20, 21 or 22. */
-static inline uint64_t trivsome_ledger_arrive(trivsome_ledger *ledger, uint32_t n) { return trivsome_arrive(ledger->ends, n); }
+/* Records a number: 0 (new, or a repeat: trivsome_is_new), 20, 21, 25 or 22. */
+static inline uint64_t trivsome_ledger_arrive(trivsome_ledger *ledger, uint32_t n)
+{
+    return trivsome_arrive(ledger->ends, ledger->floor, ledger->given_up, n);
+}
 
-/* The highest number heard, how many are heard, how many below the highest are missing, in how many runs: 0 or 20. */
-static inline uint64_t trivsome_ledger_highest(const trivsome_ledger *ledger) { return trivsome_highest(ledger->ends); }
-static inline uint64_t trivsome_ledger_heard(const trivsome_ledger *ledger) { return trivsome_heard(ledger->ends); }
-static inline uint64_t trivsome_ledger_missing(const trivsome_ledger *ledger) { return trivsome_missing(ledger->ends); }
-static inline uint64_t trivsome_ledger_runs(const trivsome_ledger *ledger) { return trivsome_runs(ledger->ends); }
+/* Gives the lowest missing run up, and tells which it was: 0, 20 or 24. Its last number becomes the floor: numbers up to there
+ * are answered 25 from now on, heard ones too, and are missing no longer. There is room for another run then, so that with this
+ * no number finds the ledger full:
+ *
+ *   while (trivsome_answer(outcome = trivsome_ledger_arrive(&ledger, n)) == 22)
+ *       trivsome_ledger_give_up(&ledger); */
+static inline uint64_t trivsome_ledger_give_up(trivsome_ledger *ledger)
+{
+    return trivsome_give_up(ledger->ends, &ledger->floor, &ledger->given_up);
+}
 
-/* The missing run at a place, from 0 for the lowest: 0, 20 or 23. */
+/* The highest number heard, how many are heard, how many between the floor and the highest are missing, in how many runs, the
+ * floor, and how many numbers were given up: 0 or 20. Heard, missing and given up make the highest. */
+static inline uint64_t trivsome_ledger_highest(const trivsome_ledger *ledger)
+{
+    return trivsome_highest(ledger->ends, ledger->floor, ledger->given_up);
+}
+static inline uint64_t trivsome_ledger_heard(const trivsome_ledger *ledger)
+{
+    return trivsome_heard(ledger->ends, ledger->floor, ledger->given_up);
+}
+static inline uint64_t trivsome_ledger_missing(const trivsome_ledger *ledger)
+{
+    return trivsome_missing(ledger->ends, ledger->floor, ledger->given_up);
+}
+static inline uint64_t trivsome_ledger_runs(const trivsome_ledger *ledger)
+{
+    return trivsome_runs(ledger->ends, ledger->floor, ledger->given_up);
+}
+static inline uint64_t trivsome_ledger_floor(const trivsome_ledger *ledger)
+{
+    return trivsome_floor(ledger->ends, ledger->floor, ledger->given_up);
+}
+static inline uint64_t trivsome_ledger_given_up(const trivsome_ledger *ledger)
+{
+    return trivsome_given_up(ledger->ends, ledger->floor, ledger->given_up);
+}
+
+/* The missing run at a place, from 0 for the lowest above the floor: 0, 20 or 23. */
 static inline uint64_t trivsome_ledger_run(const trivsome_ledger *ledger, uint32_t place)
 {
-    return trivsome_run(ledger->ends, place);
+    return trivsome_run(ledger->ends, ledger->floor, ledger->given_up, place);
 }
 
 /* A board of last quotes: a row to a stock, for up to 256 stocks, in the order in which their codes first came. All zeros are a

@@ -1,14 +1,15 @@
-//! The ledger: arrivals in many series with every figure after each, and records that may be damaged.
+//! The ledger: arrivals and give-ups in many series with every figure after each, and records that may be damaged.
 
+use std::collections::BTreeMap;
 use std::fmt;
 
 use second::ledger::{Arrival, Ledger, Refusal};
 use second::random::Random;
-use second::series::arrivals;
-use trivsome::raw;
+use second::series::{events, Event};
+use trivsome::{raw, LedgerRefusal};
 
-use crate::damage::damage;
-use crate::ends::{ends_of, ledger_of, used};
+use crate::damage::{self, damage};
+use crate::record::{ledger_of, numbers_of, shown, Numbers, ENDS};
 use crate::same::differ;
 
 /// What occurred.
@@ -18,14 +19,50 @@ pub struct Arrivals {
     arrivals: u64,
     new: u64,
     repeat: u64,
-    /// Arrivals and questions refused with 20, 21, 22 and 23.
-    refused: [u64; 4],
-    /// Records with a fault, and those of them that arrivals could have left after all.
+    /// Runs given up, and those for a number that had found no room and then was new.
+    given_up: [u64; 2],
+    /// Records with a floor that were asked for their figures.
+    floors: u64,
+    /// Calls refused with 20 to 25.
+    refused: [u64; 6],
+    /// Records with a fault, and those changed ones that arrivals and give-ups could have left after all.
     damaged: [u64; 2],
+    /// Those with a fault in their floor, by its kind.
+    faults: BTreeMap<&'static str, u64>,
 }
 
 /// What a call gives: a figure or two, or the number of a refusal.
 type Told = Result<(u32, u32), u8>;
+
+/// The proved ledger and the second program's.
+#[derive(Clone, Copy)]
+struct Ledgers {
+    proved: trivsome::Ledger,
+    second: Ledger,
+}
+
+impl Ledgers {
+    fn of(numbers: &Numbers) -> Ledgers {
+        Ledgers { proved: trivsome::Ledger::from_numbers(*numbers), second: ledger_of(numbers) }
+    }
+}
+
+/// A question for a figure: its name, the call as it is, and both ledgers'.
+type Question = (
+    &'static str,
+    fn(&[u32; ENDS], u32, u32) -> u64,
+    fn(&trivsome::Ledger) -> Result<u32, LedgerRefusal>,
+    fn(&Ledger) -> Result<u32, Refusal>,
+);
+
+const QUESTIONS: [Question; 6] = [
+    ("the highest", raw::highest, trivsome::Ledger::highest, Ledger::highest),
+    ("how many are heard", raw::heard, trivsome::Ledger::heard, Ledger::heard),
+    ("how many are missing", raw::missing, trivsome::Ledger::missing, Ledger::missing),
+    ("how many runs", raw::runs, trivsome::Ledger::runs, |second| second.runs().map(|runs| runs as u32)),
+    ("the floor", raw::floor, trivsome::Ledger::floor, Ledger::floor),
+    ("how many were given up", raw::given_up, trivsome::Ledger::given_up, Ledger::given_up),
+];
 
 impl Arrivals {
     /// Compares series of so many arrivals in all, and damaged records behind each.
@@ -37,121 +74,139 @@ impl Arrivals {
                 1 => random.within(1..=3000),
                 _ => random.within(1..=600),
             };
-            let numbers = arrivals(random, length.min(left));
-            left -= numbers.len();
+            let events = events(random, length.min(left));
+            left -= length.min(left);
             self.series += 1;
-            self.one(&numbers, random).map_err(|what| format!("series {}: {what}", self.series))?;
+            self.one(&events, random).map_err(|what| format!("series {}: {what}", self.series))?;
         }
         Ok(())
     }
 
-    fn one(&mut self, numbers: &[u32], random: &mut Random) -> Result<(), String> {
-        let (mut proved, mut second) = (trivsome::Ledger::new(), Ledger::FRESH);
-        for (place, &number) in numbers.iter().enumerate() {
-            self.arrival(&mut proved, &mut second, number, random).map_err(|what| {
-                let before = &numbers[place.saturating_sub(20)..place];
-                format!("arrival {}, of {number}: {what}\nthe ones before it: {before:?}", place + 1)
+    fn one(&mut self, events: &[Event], random: &mut Random) -> Result<(), String> {
+        let mut ledgers = Ledgers { proved: trivsome::Ledger::new(), second: Ledger::FRESH };
+        let mut happened = Vec::new();
+        for (place, &event) in events.iter().enumerate() {
+            let told = self.step(&mut ledgers, event, random).map_err(|what| {
+                let before: Vec<_> = events[place.saturating_sub(20)..place].iter().map(Event::to_string).collect();
+                format!("event {}, {event}: {what}\nthe ones before it: {}", place + 1, before.join(", "))
             })?;
+            happened.push((event, told));
             if random.one_in(10) {
-                let mut ends = *proved.ends();
-                damage(&mut ends, random);
-                self.damaged(ends, random).map_err(|what| format!("the record {:?}: {what}", used(&ends)))?;
+                let mut numbers = ledgers.proved.numbers();
+                let name = damage(&mut numbers, random);
+                let record = |what| format!("the record {:?}: {what}", shown(&numbers));
+                let is_fault = self.damaged(&numbers, random).map_err(record)?;
+                name.filter(|_| is_fault).into_iter().for_each(|name| *self.faults.entry(name).or_default() += 1);
             }
         }
-        proved.clear();
-        second.clear();
-        self.record(&proved, &second)
+        self.count(&happened);
+        ledgers.proved.clear();
+        ledgers.second.clear();
+        self.record(&ledgers)
     }
 
-    /// One arrival, and everything that can be asked after it.
-    fn arrival(
-        &mut self,
-        proved: &mut trivsome::Ledger,
-        second: &mut Ledger,
-        number: u32,
-        random: &mut Random,
-    ) -> Result<(), String> {
-        self.arrivals += 1;
-        let before = *proved.ends();
-        let own = proved.arrive(number).map(|arrival| u32::from(arrival == trivsome::Arrival::New));
-        let other = second.arrival(number).map(|arrival| u32::from(arrival == Arrival::New));
+    /// Adds the events of a series.
+    fn count(&mut self, happened: &[(Event, Told)]) {
+        for (event, told) in happened {
+            match (event, told) {
+                (Event::Arrival(_), Ok((0, _))) => self.repeat += 1,
+                (Event::Arrival(_), Ok(_)) => self.new += 1,
+                (Event::GiveUp, Ok(_)) => self.given_up[0] += 1,
+                (_, Err(_)) => {}
+            }
+            self.arrivals += u64::from(*event != Event::GiveUp);
+        }
+        let makes_room = |three: &&[(Event, Told)]| match three {
+            [(full, Err(22)), (Event::GiveUp, Ok(_)), (again, Ok((1, _)))] => full == again,
+            _ => false,
+        };
+        self.given_up[1] += happened.windows(3).filter(makes_room).count() as u64;
+    }
+
+    /// One event, and everything that can be asked after it.
+    fn step(&mut self, ledgers: &mut Ledgers, event: Event, random: &mut Random) -> Result<Told, String> {
+        let told = self.event(ledgers, event)?;
+        self.record(ledgers)?;
+        self.figures(ledgers, random)?;
+        Ok(told)
+    }
+
+    /// One event in both, and in a copy of the record; a call that records nothing leaves it.
+    fn event(&mut self, ledgers: &mut Ledgers, event: Event) -> Result<Told, String> {
+        let Ledgers { proved, second } = ledgers;
+        let before = proved.numbers();
         let mut again = before;
-        let outcome = raw::arrive(&mut again, number);
-        if again != *proved.ends() {
-            return Err(differ("the record of the same call", &used(&again), &used(proved.ends())));
+        let [ends @ .., floor, given_up] = &mut again;
+        let (outcome, own, other) = match event {
+            Event::Arrival(number) => (
+                raw::arrive(ends, *floor, *given_up, number),
+                proved.arrive(number).map(|arrival| (u32::from(arrival == trivsome::Arrival::New), 0)),
+                second.arrival(number).map(|arrival| (u32::from(arrival == Arrival::New), 0)),
+            ),
+            Event::GiveUp => (
+                raw::give_up(ends, floor, given_up),
+                proved.give_up().map(|run| (run.first, run.last)),
+                second.give_up().map(|run| (run.first, run.last)),
+            ),
+        };
+        let after = proved.numbers();
+        if again != after {
+            return Err(differ("the record of the same call", &shown(&again), &shown(&after)));
         }
-        self.same("the arrival", outcome, own.map(|new| (new, 0)), other.map(|new| (new, 0)))?;
-        match other {
-            Ok(0) => self.repeat += 1,
-            Ok(_) => self.new += 1,
-            Err(_) => {}
+        self.same(&format!("the answer to {event}"), outcome, own, other)?;
+        let told = other.map_err(Refusal::number);
+        if matches!(told, Err(_) | Ok((0, _))) && after != before {
+            return Err(differ("a record that was to stay", &shown(&after), &shown(&before)));
         }
-        if other != Ok(1) && *proved.ends() != before {
-            return Err(differ("a record that was to stay", &used(proved.ends()), &used(&before)));
-        }
-        self.record(proved, second)?;
-        self.figures(proved, second, random)
+        Ok(told)
     }
 
-    /// The record of a ledger that arrivals left.
-    fn record(&self, proved: &trivsome::Ledger, second: &Ledger) -> Result<(), String> {
-        let expected = ends_of(second);
-        if *proved.ends() == expected {
+    /// The record of a ledger that arrivals and give-ups left.
+    fn record(&self, ledgers: &Ledgers) -> Result<(), String> {
+        let (numbers, expected) = (ledgers.proved.numbers(), numbers_of(&ledgers.second));
+        if numbers == expected {
             Ok(())
         } else {
-            Err(differ("the record", &used(proved.ends()), &used(&expected)))
+            Err(differ("the record", &shown(&numbers), &shown(&expected)))
         }
     }
 
     /// All figures, every run, and some places at which there is none.
-    fn figures(&mut self, proved: &trivsome::Ledger, second: &Ledger, random: &mut Random) -> Result<(), String> {
-        let ends = proved.ends();
-        let figure = |figure: u32| (figure, 0);
-        self.same("the highest", raw::highest(ends), proved.highest().map(figure), second.highest().map(figure))?;
-        self.same("how many are heard", raw::heard(ends), proved.heard().map(figure), second.heard().map(figure))?;
-        self.same(
-            "how many are missing",
-            raw::missing(ends),
-            proved.missing().map(figure),
-            second.missing().map(figure),
-        )?;
-        self.same(
-            "how many runs",
-            raw::runs(ends),
-            proved.runs().map(figure),
-            second.runs().map(|runs| figure(runs as u32)),
-        )?;
+    fn figures(&mut self, ledgers: &Ledgers, random: &mut Random) -> Result<(), String> {
+        let Ledgers { proved, second } = ledgers;
+        let [ref ends @ .., floor, given_up] = proved.numbers();
+        for (name, raw, own, other) in QUESTIONS {
+            let figure = |figure: u32| (figure, 0);
+            self.same(name, raw(ends, floor, given_up), own(proved).map(figure), other(second).map(figure))?;
+        }
+        self.floors += u64::from(second.floor().is_ok_and(|floor| floor > 0));
         let count = second.runs().unwrap_or(0) as u32;
         let beyond = [count, count + 1, 64, 128, 1 << 28, u32::MAX, random.any() as u32];
         for place in (0..count).chain([beyond[0], random.pick(&beyond)]) {
             let own = proved.run(place).map(|run| (run.first, run.last));
             let other = second.run(place as usize).map(|run| (run.first, run.last));
-            self.same(&format!("the run at {place}"), raw::run(ends, place), own, other)?;
+            self.same(&format!("the run at {place}"), raw::run(ends, floor, given_up, place), own, other)?;
         }
         Ok(())
     }
 
-    /// Any record: every call of both, and that a refusal leaves it.
-    fn damaged(&mut self, ends: [u32; 129], random: &mut Random) -> Result<(), String> {
-        let (mut proved, mut second) = (trivsome::Ledger::from_ends(ends), ledger_of(&ends));
-        self.figures(&proved, &second, random)?;
-        let is_fault = second.highest().is_err();
+    /// Any record: every call of both, and that a refusal leaves it. Answers whether it has a fault.
+    fn damaged(&mut self, numbers: &Numbers, random: &mut Random) -> Result<bool, String> {
+        let ledgers = Ledgers::of(numbers);
+        self.figures(&ledgers, random)?;
+        let is_fault = ledgers.second.highest().is_err();
         self.damaged[usize::from(!is_fault)] += 1;
-        let near = ends[random.within(0..=128)].wrapping_add(random.below(3) as u32).wrapping_sub(1);
+        let near = numbers[random.within(0..=ENDS + 1)].wrapping_add(random.below(3) as u32).wrapping_sub(1);
         let number = random.pick(&[0, 1, near, near, 99_999_999, 100_000_000]);
-        let own = proved.arrive(number).map(|arrival| (u32::from(arrival == trivsome::Arrival::New), 0));
-        let other = second.arrival(number).map(|arrival| (u32::from(arrival == Arrival::New), 0));
-        let outcome = raw::arrive(&mut ends.clone(), number);
-        self.same(&format!("an arrival of {number}"), outcome, own, other)?;
-        if is_fault && *proved.ends() != ends {
-            return Err(differ("a record that was to stay", &used(proved.ends()), &used(&ends)));
+        for event in [Event::Arrival(number), Event::GiveUp] {
+            let mut after = ledgers;
+            let step = if is_fault { self.event(&mut after, event) } else { self.step(&mut after, event, random) };
+            step.map_err(|what| format!("{event}: {what}"))?.ok();
         }
-        if !is_fault {
-            self.record(&proved, &second)?;
-            self.figures(&proved, &second, random)?;
-        }
+        let mut proved = ledgers.proved;
         proved.clear();
-        self.record(&proved, &Ledger::FRESH)
+        self.record(&Ledgers { proved, second: Ledger::FRESH })?;
+        Ok(is_fault)
     }
 
     /// Both tell the same, by the outcome and by its names.
@@ -159,11 +214,10 @@ impl Arrivals {
         &mut self,
         what: &str,
         outcome: u64,
-        proved: Result<(u32, u32), trivsome::LedgerRefusal>,
+        proved: Result<(u32, u32), LedgerRefusal>,
         second: Result<(u32, u32), Refusal>,
     ) -> Result<(), String> {
-        let (proved, second): (Told, Told) =
-            (proved.map_err(trivsome::LedgerRefusal::number), second.map_err(Refusal::number));
+        let (proved, second): (Told, Told) = (proved.map_err(LedgerRefusal::number), second.map_err(Refusal::number));
         if proved != second {
             return Err(format!("{what} differs\n  proved: {proved:?}\n  second: {second:?}"));
         }
@@ -183,16 +237,34 @@ impl Arrivals {
     /// What did not occur.
     pub fn missed(&self) -> Option<String> {
         let refusal = self.refused.iter().zip(20..).find(|(times, _)| **times == 0);
-        let counts = [self.new, self.repeat, self.damaged[0], self.damaged[1]];
-        let other = || counts.contains(&0).then(|| "a new number, a repeat or a damaged record".into());
-        refusal.map(|(_, answer)| format!("answer {answer}")).or_else(other)
+        let refusal = refusal.map(|(_, answer)| format!("answer {answer}"));
+        let fault = damage::names().find(|name| !self.faults.contains_key(name)).map(str::to_string);
+        let counts = [
+            ("a new number", self.new),
+            ("a repeat", self.repeat),
+            ("a run given up", self.given_up[0]),
+            ("a number that is new once a run is given up for it", self.given_up[1]),
+            ("a floor", self.floors),
+            ("a record with a fault", self.damaged[0]),
+            ("a changed record without one", self.damaged[1]),
+        ];
+        let other = counts.iter().find(|(_, times)| *times == 0).map(|(name, _)| name.to_string());
+        refusal.or(fault).or(other)
     }
 }
 
 impl fmt::Display for Arrivals {
     fn fmt(&self, f: &mut fmt::Formatter) -> fmt::Result {
-        let ([twenty, number, full, place], [faults, none]) = (self.refused, self.damaged);
-        write!(f, "{} arrivals in {} series; new:{} repeat:{} ", self.arrivals, self.series, self.new, self.repeat)?;
-        write!(f, "20:{twenty} 21:{number} 22:{full} 23:{place}; records with a fault:{faults} changed without:{none}")
+        write!(f, "{} arrivals in {} series; new:{} repeat:{}", self.arrivals, self.series, self.new, self.repeat)?;
+        for (times, answer) in self.refused.iter().zip(20..) {
+            write!(f, " {answer}:{times}")?;
+        }
+        let ([runs, room], [faults, none]) = (self.given_up, self.damaged);
+        write!(
+            f,
+            "; runs given up:{runs} for a number that was new then:{room} records with a floor:{}; ",
+            self.floors
+        )?;
+        write!(f, "records with a fault:{faults} ({} kinds in the floor) changed without:{none}", self.faults.len())
     }
 }

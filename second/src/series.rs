@@ -1,7 +1,7 @@
 //! Series of frame numbers for the comparison of ledgers: in order, with gaps, late, twice, with more runs than there is room
-//! for, and below what was given up.
+//! for, and with runs that are given up.
 
-use std::fmt::Write;
+use std::fmt;
 
 use crate::gaps::{hear, WhenFull};
 use crate::ledger::{Arrival, Ledger, Refusal, GREATEST_NUMBER, MOST_RUNS};
@@ -9,6 +9,22 @@ use crate::random::Random;
 
 /// The most bytes of one text: the proved program reads no more than 65,536.
 const TEXT: usize = 60_000;
+
+/// What happens to a ledger. Shown as a line that `numbers` reads.
+#[derive(Clone, Copy, Debug, PartialEq, Eq)]
+pub enum Event {
+    Arrival(u32),
+    GiveUp,
+}
+
+impl fmt::Display for Event {
+    fn fmt(&self, f: &mut fmt::Formatter) -> fmt::Result {
+        match self {
+            Event::Arrival(number) => write!(f, "{number}"),
+            Event::GiveUp => f.write_str("give-up"),
+        }
+    }
+}
 
 #[derive(Clone, Copy)]
 enum Phase {
@@ -79,6 +95,12 @@ impl Series {
         hear(&mut self.ledger, number, self.when_full)
     }
 
+    /// Gives the lowest run up, if there is one.
+    fn give_up(&mut self) -> Event {
+        let _ = self.ledger.give_up();
+        Event::GiveUp
+    }
+
     /// The next number, or one outside the allowed numbers.
     fn any(&mut self, random: &mut Random) -> u32 {
         match random.below(100) {
@@ -125,7 +147,7 @@ impl Series {
     }
 }
 
-/// Texts of series with so many arrivals in all, and of lent records, as `numbers` reads them.
+/// Texts of series with so many arrivals in all, of give-ups among them, and of lent records, as `numbers` reads them.
 pub fn texts(seed: u64, arrivals: usize) -> Vec<String> {
     let mut random = Random::new(!seed);
     let mut texts = vec![String::new()];
@@ -138,7 +160,7 @@ pub fn texts(seed: u64, arrivals: usize) -> Vec<String> {
         };
         let mut piece = one_series(&mut random, length.min(left));
         left -= length.min(left);
-        for _ in 0..random.below(4) {
+        for _ in 0..random.below(8) {
             piece += &lent(&mut random);
         }
         match texts.last_mut() {
@@ -149,36 +171,49 @@ pub fn texts(seed: u64, arrivals: usize) -> Vec<String> {
     texts
 }
 
-/// A series of so many arrivals, some of them outside the allowed numbers.
-pub fn arrivals(random: &mut Random, length: usize) -> Vec<u32> {
+/// A series of so many arrivals, some of them outside the allowed numbers. In most series runs are given up, too: at any time,
+/// and for a number that found no room, which then comes again.
+pub fn events(random: &mut Random, arrivals: usize) -> Vec<Event> {
+    let gives_up = !random.one_in(3);
     let mut series = Series::new(WhenFull::Refuse);
-    let mut one = || {
-        let number = series.any(random);
-        let _ = series.came(number);
-        number
-    };
-    (0..length).map(|_| one()).collect()
-}
-
-/// A number a line, and an empty line.
-fn one_series(random: &mut Random, length: usize) -> String {
-    let mut text = String::new();
-    for number in arrivals(random, length) {
-        let _ = writeln!(text, "{number}");
+    let mut events = Vec::new();
+    let mut without_room = None;
+    for _ in 0..arrivals {
+        let times = match without_room {
+            Some(_) => 1,
+            // all of them and one more, at times
+            None if gives_up && random.one_in(40) => random.pick(&[1, 1, 1, 1, 1, 2, 2, 5, 9, series.ledger.count + 1]),
+            None => 0,
+        };
+        events.extend((0..times).map(|_| series.give_up()));
+        let number = without_room.unwrap_or_else(|| series.any(random));
+        let is_full = series.came(number) == Err(Refusal::Full);
+        without_room = (gives_up && is_full && random.one_in(2)).then_some(number);
+        events.push(Event::Arrival(number));
     }
-    text + "\n"
+    events
 }
 
-/// The ends of a record that may have a fault, on one line: falling numbers, and zeros behind them.
+/// An event a line, and an empty line.
+fn one_series(random: &mut Random, arrivals: usize) -> String {
+    events(random, arrivals).iter().map(|event| format!("{event}\n")).collect::<String>() + "\n"
+}
+
+/// A record that may have a fault, on one line: falling ends and zeros behind them, and perhaps a floor.
 fn lent(random: &mut Random) -> String {
+    let has_floor = random.one_in(2);
     let count = if random.one_in(4) { random.within(126..=129) } else { random.within(2..=12) };
     let mut ends = Vec::new();
     let mut end = random.below(3) as u32;
+    if has_floor {
+        end += random.pick(&[0, 1, 5, 1000]);
+    }
     for _ in 0..count {
         end += 1 + random.pick(&[0, 0, 0, 1, 4, 700_000]);
         ends.push(end);
     }
     ends.reverse();
+    let behind = if has_floor { floor_below(&ends, random) } else { String::new() };
     let place = random.within(0..=count - 1);
     match random.below(10) {
         0 => ends[place] = 0,
@@ -193,5 +228,25 @@ fn lent(random: &mut Random) -> String {
         ends.resize(random.within(count..=129), 0);
     }
     let ends: Vec<String> = ends.iter().map(u32::to_string).collect();
-    ends.join(" ") + "\n"
+    ends.join(" ") + &behind + "\n"
+}
+
+/// A floor and how many numbers were given up, of which either may be wrong, as they stand behind the ends of a record.
+fn floor_below(ends: &[u32], random: &mut Random) -> String {
+    let (highest, lowest) = (ends[0], ends[ends.len() - 1]);
+    let any = random.below(u64::from(highest) + 2) as u32;
+    let below = random.below(u64::from(lowest)) as u32;
+    let floor = match random.below(4) {
+        0 => random.pick(&[0, 1, lowest, lowest + 1, highest - 1, highest, any, 99_999_999, 999_999_999]),
+        1 => below,
+        _ => lowest - 1,
+    };
+    let some = random.below(u64::from(floor) + 1) as u32;
+    let given_up = match random.below(3) {
+        0 => random.pick(&[0, 1, (floor + 1).min(999_999_999), highest, 99_999_999, 999_999_999]),
+        1 => floor,
+        _ => some.max(1),
+    };
+    let slash = random.pick(&[" / ", "/", " /", "/ "]);
+    format!("{slash}{floor} {given_up}")
 }

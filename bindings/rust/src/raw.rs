@@ -2,8 +2,9 @@
 //!
 //! An outcome is one number: the answer in bits 0 to 7, and above it what the call tells beside it. Of a reading and a move
 //! these are the format (8 to 15), the length or the bytes gone past (16 to 31) and the sequence number (32 to 63); of a
-//! writing the length; of a figure the figure, and of a board how many rows are in use; of a run its first number (8 to 35)
-//! and its last (36 to 63); of an arrival how many numbers more are heard. A refused call leaves what it was lent as it came.
+//! writing the length; of a figure the figure, and of a board how many rows are in use; of a run, also of one that is given
+//! up, its first number (8 to 35) and its last (36 to 63); of an arrival how many numbers more are heard. A refused call leaves
+//! what it was lent as it came.
 #![allow(unsafe_code)]
 
 use std::mem::{offset_of, size_of};
@@ -81,13 +82,16 @@ mod calls {
         ) -> u64;
         pub fn trivsome_move(line: *const u8, length: usize, at: usize, closed: bool) -> u64;
         pub fn trivsome_walk(tally: *mut [u64; 4], line: *const u8, length: usize, closed: bool) -> u64;
-        pub fn trivsome_clear(ends: *mut [u32; 129]);
-        pub fn trivsome_arrive(ends: *mut [u32; 129], n: u32) -> u64;
-        pub fn trivsome_highest(ends: *const [u32; 129]) -> u64;
-        pub fn trivsome_heard(ends: *const [u32; 129]) -> u64;
-        pub fn trivsome_missing(ends: *const [u32; 129]) -> u64;
-        pub fn trivsome_runs(ends: *const [u32; 129]) -> u64;
-        pub fn trivsome_run(ends: *const [u32; 129], place: u32) -> u64;
+        pub fn trivsome_clear(ends: *mut [u32; 129], floor: *mut u32, given_up: *mut u32);
+        pub fn trivsome_arrive(ends: *mut [u32; 129], floor: u32, given_up: u32, n: u32) -> u64;
+        pub fn trivsome_give_up(ends: *mut [u32; 129], floor: *mut u32, given_up: *mut u32) -> u64;
+        pub fn trivsome_highest(ends: *const [u32; 129], floor: u32, given_up: u32) -> u64;
+        pub fn trivsome_heard(ends: *const [u32; 129], floor: u32, given_up: u32) -> u64;
+        pub fn trivsome_missing(ends: *const [u32; 129], floor: u32, given_up: u32) -> u64;
+        pub fn trivsome_runs(ends: *const [u32; 129], floor: u32, given_up: u32) -> u64;
+        pub fn trivsome_floor(ends: *const [u32; 129], floor: u32, given_up: u32) -> u64;
+        pub fn trivsome_given_up(ends: *const [u32; 129], floor: u32, given_up: u32) -> u64;
+        pub fn trivsome_run(ends: *const [u32; 129], floor: u32, given_up: u32, place: u32) -> u64;
         pub fn trivsome_board_clear(heads: *mut u64, head_count: usize, cells: *mut u32, cell_count: usize) -> u64;
         pub fn trivsome_board_take_numbers(
             heads: *mut u64,
@@ -246,51 +250,72 @@ pub fn walk(tally: &mut [u64; 4], line: &[u8], closed: bool) -> u64 {
 
 /// Makes any record a fresh ledger's.
 #[inline]
-pub fn clear(ends: &mut [u32; 129]) {
-    // SAFETY: the ends are lent by a reference that nothing else holds.
-    unsafe { calls::trivsome_clear(ends) }
+pub fn clear(ends: &mut [u32; 129], floor: &mut u32, given_up: &mut u32) {
+    // SAFETY: all three are lent by references that nothing else holds.
+    unsafe { calls::trivsome_clear(ends, floor, given_up) }
 }
 
-/// Records a number: 0, 20, 21 or 22.
+/// Records a number: 0, 20, 21, 25 or 22.
 #[inline]
-pub fn arrive(ends: &mut [u32; 129], n: u32) -> u64 {
+pub fn arrive(ends: &mut [u32; 129], floor: u32, given_up: u32, n: u32) -> u64 {
     // SAFETY: the ends are lent by a reference that nothing else holds.
-    unsafe { calls::trivsome_arrive(ends, n) }
+    unsafe { calls::trivsome_arrive(ends, floor, given_up, n) }
+}
+
+/// Gives the lowest missing run up: 0, 20 or 24.
+#[inline]
+pub fn give_up(ends: &mut [u32; 129], floor: &mut u32, given_up: &mut u32) -> u64 {
+    // SAFETY: all three are lent by references that nothing else holds.
+    unsafe { calls::trivsome_give_up(ends, floor, given_up) }
 }
 
 /// The highest number heard: 0 or 20.
 #[inline]
-pub fn highest(ends: &[u32; 129]) -> u64 {
+pub fn highest(ends: &[u32; 129], floor: u32, given_up: u32) -> u64 {
     // SAFETY: the ends are lent by a reference.
-    unsafe { calls::trivsome_highest(ends) }
+    unsafe { calls::trivsome_highest(ends, floor, given_up) }
 }
 
 /// How many numbers are heard: 0 or 20.
 #[inline]
-pub fn heard(ends: &[u32; 129]) -> u64 {
+pub fn heard(ends: &[u32; 129], floor: u32, given_up: u32) -> u64 {
     // SAFETY: the ends are lent by a reference.
-    unsafe { calls::trivsome_heard(ends) }
+    unsafe { calls::trivsome_heard(ends, floor, given_up) }
 }
 
-/// How many numbers below the highest are missing: 0 or 20.
+/// How many numbers between the floor and the highest are missing: 0 or 20.
 #[inline]
-pub fn missing(ends: &[u32; 129]) -> u64 {
+pub fn missing(ends: &[u32; 129], floor: u32, given_up: u32) -> u64 {
     // SAFETY: the ends are lent by a reference.
-    unsafe { calls::trivsome_missing(ends) }
+    unsafe { calls::trivsome_missing(ends, floor, given_up) }
 }
 
 /// How many missing runs there are: 0 or 20.
 #[inline]
-pub fn runs(ends: &[u32; 129]) -> u64 {
+pub fn runs(ends: &[u32; 129], floor: u32, given_up: u32) -> u64 {
     // SAFETY: the ends are lent by a reference.
-    unsafe { calls::trivsome_runs(ends) }
+    unsafe { calls::trivsome_runs(ends, floor, given_up) }
+}
+
+/// The floor: 0 or 20.
+#[inline]
+pub fn floor(ends: &[u32; 129], floor: u32, given_up: u32) -> u64 {
+    // SAFETY: the ends are lent by a reference.
+    unsafe { calls::trivsome_floor(ends, floor, given_up) }
+}
+
+/// How many numbers were given up: 0 or 20.
+#[inline]
+pub fn given_up(ends: &[u32; 129], floor: u32, given_up: u32) -> u64 {
+    // SAFETY: the ends are lent by a reference.
+    unsafe { calls::trivsome_given_up(ends, floor, given_up) }
 }
 
 /// The missing run at a place: 0, 20 or 23.
 #[inline]
-pub fn run(ends: &[u32; 129], place: u32) -> u64 {
+pub fn run(ends: &[u32; 129], floor: u32, given_up: u32, place: u32) -> u64 {
     // SAFETY: the ends are lent by a reference.
-    unsafe { calls::trivsome_run(ends, place) }
+    unsafe { calls::trivsome_run(ends, floor, given_up, place) }
 }
 
 /// Makes every row of a board free: 0 or 50.

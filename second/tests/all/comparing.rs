@@ -75,6 +75,8 @@ fn a_difference() {
         ("board", "sed 's/\"trade\":{.*},\"bids\"/\"trade\":null,\"bids\"/'", "\"trade\":null,", "\"trade\":{"),
         ("board", "sed '$p'", "{\"code\":", "no such row"),
         ("numbers", "sed 's/ new$/ repeat/'", " repeat", " new"),
+        ("numbers", "sed 's/^give-up [1-9].*-/give-up 1-/'", "give-up 1-", "give-up "),
+        ("numbers", "sed 's/ given-up [1-9].*/ given-up 0/'", " given-up 0", " given-up "),
     ] {
         let (status, text) = compare(program, behind, "300");
         assert_eq!(status, Some(1), "{text}");

@@ -62,6 +62,7 @@ fn so_many_arrivals() {
     let arrivals = texts.iter().flat_map(|text| text.lines()).filter(|line| line.parse::<u32>().is_ok()).count();
     assert_eq!(arrivals, 20_000);
     assert!(texts.iter().all(|text| text.len() <= 65_536));
+    assert!(texts.iter().any(|text| text.contains("\ngive-up\n")) && texts.iter().any(|text| text.contains('/')));
 }
 
 #[test]
