@@ -412,25 +412,37 @@ static bool figures_are(const trivsome_ledger *l, uint32_t highest, uint32_t hea
            trivsome_figure(h) == highest && trivsome_figure(n) == heard && trivsome_figure(m) == missing && trivsome_figure(r) == runs;
 }
 
+static bool floor_is(const trivsome_ledger *l, uint32_t floor, uint32_t given_up)
+{
+    uint64_t f = trivsome_ledger_floor(l), g = trivsome_ledger_given_up(l);
+    return trivsome_answer(f) == 0 && trivsome_answer(g) == 0 && trivsome_figure(f) == floor && trivsome_figure(g) == given_up;
+}
+
+static bool is_run(uint64_t x, uint32_t first, uint32_t last)
+{
+    return trivsome_answer(x) == 0 && trivsome_first(x) == first && trivsome_last(x) == last;
+}
+
 static bool run_is(const trivsome_ledger *l, uint32_t place, uint32_t first, uint32_t last)
 {
-    uint64_t x = trivsome_ledger_run(l, place);
-    return trivsome_answer(x) == 0 && trivsome_first(x) == first && trivsome_last(x) == last;
+    return is_run(trivsome_ledger_run(l, place), first, last);
 }
 
 static void damaged(const trivsome_ledger *l)
 {
     trivsome_ledger copy = *l;
     HOLDS(trivsome_ledger_arrive(&copy, 3) == 20 && trivsome_ledger_arrive(&copy, 0) == 20); // 20 before 21
+    HOLDS(trivsome_ledger_give_up(&copy) == 20);
     HOLDS(memcmp(&copy, l, sizeof copy) == 0);
     HOLDS(trivsome_ledger_highest(l) == 20 && trivsome_ledger_heard(l) == 20 && trivsome_ledger_missing(l) == 20);
     HOLDS(trivsome_ledger_runs(l) == 20 && trivsome_ledger_run(l, 0) == 20 && trivsome_ledger_run(l, 64) == 20);
+    HOLDS(trivsome_ledger_floor(l) == 20 && trivsome_ledger_given_up(l) == 20);
 }
 
 static void ledger(void)
 {
     trivsome_ledger l, fresh = {0};
-    HOLDS(figures_are(&fresh, 0, 0, 0, 0) && trivsome_ledger_run(&fresh, 0) == 23);
+    HOLDS(figures_are(&fresh, 0, 0, 0, 0) && floor_is(&fresh, 0, 0) && trivsome_ledger_run(&fresh, 0) == 23);
     FILL(l);
     damaged(&l);
     trivsome_ledger_clear(&l);
@@ -459,16 +471,87 @@ static void ledger(void)
     HOLDS(figures_are(&l, 99999999, 1, 99999998, 1) && run_is(&l, 0, 1, 99999998));
 
     // records that no arrivals leave: a highest number that is none, a run up to the highest, a place behind the unused ones
-    l = (trivsome_ledger){{100000000}}, damaged(&l);
-    l = (trivsome_ledger){{5, 5}}, damaged(&l);
-    l = (trivsome_ledger){{5, 0, 1}}, damaged(&l);
+    l = (trivsome_ledger){{100000000}, 0, 0}, damaged(&l);
+    l = (trivsome_ledger){{5, 5}, 0, 0}, damaged(&l);
+    l = (trivsome_ledger){{5, 0, 1}, 0, 0}, damaged(&l);
+}
+
+// 5, 2 and 9 are heard; 1, 3 to 4 and 6 to 8 are missing.
+static trivsome_ledger with_three_runs(void)
+{
+    trivsome_ledger l = {0};
+    HOLDS(trivsome_is_new(trivsome_ledger_arrive(&l, 5)) && trivsome_is_new(trivsome_ledger_arrive(&l, 2)));
+    HOLDS(trivsome_is_new(trivsome_ledger_arrive(&l, 9)) && figures_are(&l, 9, 3, 6, 3) && floor_is(&l, 0, 0));
+    return l;
+}
+
+// The lowest run is given up, run by run: 24 where there is none, and 25 for the numbers up to the floor.
+static void giving_up(void)
+{
+    trivsome_ledger l = {0}, kept = {0};
+    HOLDS(trivsome_ledger_give_up(&l) == 24 && memcmp(&l, &kept, sizeof l) == 0);
+    HOLDS(trivsome_is_new(trivsome_ledger_arrive(&l, 1)));
+    kept = l;
+    HOLDS(trivsome_ledger_give_up(&l) == 24 && memcmp(&l, &kept, sizeof l) == 0);
+
+    l = with_three_runs();
+    HOLDS(is_run(trivsome_ledger_give_up(&l), 1, 1) && floor_is(&l, 1, 1) && figures_are(&l, 9, 3, 5, 2) && run_is(&l, 0, 3, 4));
+    HOLDS(trivsome_ledger_arrive(&l, 1) == 25 && trivsome_ledger_arrive(&l, 2) == 0);
+    HOLDS(is_run(trivsome_ledger_give_up(&l), 3, 4) && floor_is(&l, 4, 3) && figures_are(&l, 9, 3, 3, 1) && run_is(&l, 0, 6, 8));
+    kept = l;
+    // 2 is heard, and below the floor now; 21 before 25
+    HOLDS(trivsome_ledger_arrive(&l, 1) == 25 && trivsome_ledger_arrive(&l, 2) == 25 && trivsome_ledger_arrive(&l, 4) == 25);
+    HOLDS(trivsome_ledger_arrive(&l, 0) == 21 && trivsome_ledger_arrive(&l, 100000000) == 21 && trivsome_ledger_arrive(&l, 5) == 0);
+    HOLDS(trivsome_ledger_run(&l, 1) == 23 && memcmp(&l, &kept, sizeof l) == 0);
+    HOLDS(trivsome_is_new(trivsome_ledger_arrive(&l, 7)) && is_run(trivsome_ledger_give_up(&l), 6, 6));
+    HOLDS(is_run(trivsome_ledger_give_up(&l), 8, 8) && trivsome_ledger_give_up(&l) == 24);
+    HOLDS(floor_is(&l, 8, 5) && figures_are(&l, 9, 4, 0, 0) && trivsome_ledger_run(&l, 0) == 23);
+    trivsome_ledger_clear(&l);
+    HOLDS(floor_is(&l, 0, 0) && figures_are(&l, 0, 0, 0, 0) && trivsome_is_new(trivsome_ledger_arrive(&l, 1)));
+
+    // a full ledger: room for a number that found none, and again
+    trivsome_ledger_clear(&l);
+    for (uint32_t n = 2; n <= 128; n += 2) HOLDS(trivsome_is_new(trivsome_ledger_arrive(&l, n)));
+    HOLDS(trivsome_ledger_arrive(&l, 130) == 22 && is_run(trivsome_ledger_give_up(&l), 1, 1));
+    HOLDS(trivsome_is_new(trivsome_ledger_arrive(&l, 130)) && figures_are(&l, 130, 65, 64, 64) && floor_is(&l, 1, 1));
+    HOLDS(run_is(&l, 0, 3, 3) && run_is(&l, 63, 129, 129) && trivsome_ledger_run(&l, 64) == 23 && trivsome_ledger_arrive(&l, 132) == 22);
+    HOLDS(is_run(trivsome_ledger_give_up(&l), 3, 3) && trivsome_is_new(trivsome_ledger_arrive(&l, 132)) && floor_is(&l, 3, 2));
+
+    // the longest run that there can be
+    trivsome_ledger_clear(&l);
+    HOLDS(trivsome_is_new(trivsome_ledger_arrive(&l, 99999999)) && is_run(trivsome_ledger_give_up(&l), 1, 99999998));
+    HOLDS(floor_is(&l, 99999998, 99999998) && figures_are(&l, 99999999, 1, 0, 0));
+    HOLDS(trivsome_ledger_arrive(&l, 99999998) == 25 && trivsome_ledger_arrive(&l, 99999999) == 0);
+}
+
+// Floors and counts that no arrivals and give-ups leave.
+static void wrong_floors(void)
+{
+    static const uint32_t floors[][2] = {
+        {1, 0}, {0, 1}, {1, 2}, // one without the other, and more than there are up to the floor
+        {2, 1}, {3, 1}, {4, 3}, {8, 6}, {5, 3}, // the next number is missing, the floor itself is, a run lies below it
+        {9, 6}, {10, 6}, {99999999, 1}, {100000000, 1}, {UINT32_MAX, 1}, {UINT32_MAX, UINT32_MAX}, // at the highest, or above
+    };
+    // the record of 9, 5 and 2 with 1 given up: all up to 2 is settled
+    trivsome_ledger l = with_three_runs(), right = {{9, 8, 5, 4, 2}, 1, 1};
+    HOLDS(is_run(trivsome_ledger_give_up(&l), 1, 1) && memcmp(&l, &right, sizeof l) == 0);
+    for (size_t i = 0; i < sizeof floors / sizeof floors[0]; i++) {
+        l.floor = floors[i][0], l.given_up = floors[i][1];
+        damaged(&l);
+    }
+    // with 1 missing, with 1 and 2 missing, and with nothing heard
+    l = (trivsome_ledger){{9, 8, 5, 4, 2, 1}, 1, 1}, damaged(&l);
+    l = (trivsome_ledger){{9, 8, 5, 4, 3, 2}, 1, 1}, damaged(&l);
+    l = (trivsome_ledger){{0}, 1, 1}, damaged(&l);
+    trivsome_ledger_clear(&l);
+    HOLDS(floor_is(&l, 0, 0) && figures_are(&l, 0, 0, 0, 0));
 }
 
 // A ledger kept in a file: it goes on where it was; a number changed in the file is answered 20.
 static void storing(void)
 {
     trivsome_ledger l = {0}, again;
-    HOLDS(sizeof l == 129 * 4);
+    HOLDS(sizeof l == 131 * 4 && offsetof(trivsome_ledger, floor) == 129 * 4 && offsetof(trivsome_ledger, given_up) == 130 * 4);
     HOLDS(trivsome_is_new(trivsome_ledger_arrive(&l, 5)) && trivsome_is_new(trivsome_ledger_arrive(&l, 2)));
     FILE *file = tmpfile();
     if (file == NULL) {
@@ -488,6 +571,16 @@ static void storing(void)
     HOLDS(fread(&again, sizeof again, 1, file) == 1);
     damaged(&again);
     fclose(file);
+}
+
+// A ledger of the version before, kept as its 129 ends: read into zeros it goes on where it was.
+static void storing_before(void)
+{
+    static const uint32_t kept[129] = {5, 4, 2, 1};
+    trivsome_ledger l = {0};
+    memcpy(&l, kept, sizeof kept);
+    HOLDS(figures_are(&l, 5, 2, 3, 2) && floor_is(&l, 0, 0) && run_is(&l, 1, 3, 4));
+    HOLDS(trivsome_is_new(trivsome_ledger_arrive(&l, 3)) && is_run(trivsome_ledger_give_up(&l), 1, 1));
 }
 
 // The board: zeros to begin with, and another to compare with.
@@ -713,7 +806,10 @@ int main(void)
     writing_halts();
     walking();
     ledger();
+    giving_up();
+    wrong_floors();
     storing();
+    storing_before();
     all_lengths();
     clear_board();
     taking();

@@ -51,8 +51,11 @@ static void ledger()
     trivsome_ledger ledger = {};
     HOLDS(trivsome_is_new(trivsome_ledger_arrive(&ledger, 2)) && !trivsome_is_new(trivsome_ledger_arrive(&ledger, 2)));
     HOLDS(trivsome_figure(trivsome_ledger_missing(&ledger)) == 1 && trivsome_last(trivsome_ledger_run(&ledger, 0)) == 1);
+    HOLDS(trivsome_last(trivsome_ledger_give_up(&ledger)) == 1 && trivsome_ledger_give_up(&ledger) == 24);
+    HOLDS(trivsome_figure(trivsome_ledger_floor(&ledger)) == 1 && trivsome_figure(trivsome_ledger_given_up(&ledger)) == 1);
+    HOLDS(trivsome_ledger_arrive(&ledger, 1) == 25 && trivsome_ledger_missing(&ledger) == 0);
     trivsome_ledger_clear(&ledger);
-    HOLDS(trivsome_ledger_heard(&ledger) == 0);
+    HOLDS(trivsome_ledger_heard(&ledger) == 0 && trivsome_ledger_floor(&ledger) == 0);
 }
 
 // A board on the heap, and one of two vectors; empty ones are refused.
