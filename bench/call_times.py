@@ -29,9 +29,9 @@ def run(program, quick):
         size, proved, second = map(float, figures)
         if part != before:
             print(f"{'' if before is None else chr(10)}{part}: {ITEMS[part]}")
-            print(f"  {'':32} {'bytes':>6} {'proved ns':>10} {'second ns':>10} {'ratio':>6} {'proved MB/s':>12} {'second MB/s':>12}")
+            print(f"  {'':34} {'bytes':>6} {'proved ns':>10} {'second ns':>10} {'ratio':>6} {'proved MB/s':>12} {'second MB/s':>12}")
             before = part
-        row = f"  {name:32} {format(size, '.0f') if size else '-':>6} {proved:10.1f} {second:10.1f} {proved / second:6.2f}"
+        row = f"  {name:34} {format(size, '.0f') if size else '-':>6} {proved:10.1f} {second:10.1f} {proved / second:6.2f}"
         print(row + "".join(f" {size / each * 1000:12.0f}" for each in (proved, second) if size))
     if calls.wait():
         sys.exit("bench: the calls could not be timed")

@@ -31,7 +31,8 @@ for way in reading writing; do
         'six, the trade alone' 'twelve, 10 slots' nineteen
 done
 part 'the answer alone' 'six, 9 pairs' 'six, 9 pairs, check byte wrong' 'noise, at each of its bytes'
-part arrivals 'in order' 'with gaps' 'half of them late' 'in order, 64 runs open' 'repeats, 64 runs open' 'refused with 22'
+part arrivals 'in order' 'with gaps' 'half of them late' 'in order, 64 runs open' 'repeats, 64 runs open' 'refused with 22' \
+    'in order, above a floor' 'in order, a floor and 63 runs open' 'late, at or below the floor' 'give up and go on'
 part board 'taken, any of 256 stocks' 'the same, any pairs' 'the same, the trade alone' 'the same, codes that begin alike' \
     "taken, the first row's stock" "taken, the last row's stock" 'refused with 52' 'asked for, any of 256 codes'
 part walk 'six, 9 pairs, 2 MB'
