@@ -50,7 +50,7 @@ quick_tests() {
 user_tests() {
     export TRIVSOME_EMULATED=yes # rt has just made the programs
     programs="crates/stock_feed/|crates/stock_texts/|$(for main in crates/*/src/main.rt; do printf '%s/|' "${main%/src/main.rt}"; done)"
-    test_on "${programs}trivsome|native/|include/|examples/|samples/|bindings/rust/Cargo|tests/trivsome/|tests/reference/" \
+    test_on "${programs}trivsome|native/|include/|examples/|samples/|bindings/rust/Cargo|tests/trivsome/|tests/gaps/|tests/reference/" \
         "trivsome runs, and fails loudly" sh tests/trivsome/try.sh
     test_on "${programs}trivsome|samples/|tests/live/|tests/listing/|tests/messages/|tests/board/|tests/reference/" \
         "a line that stays open is shown as it comes" python3 tests/live/try.py

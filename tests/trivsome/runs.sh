@@ -1,6 +1,6 @@
 #!/bin/sh
-# The programs as they are run: a file, a pipe that gives small pieces, a terminal's few bytes, a full disk, a folder for input,
-# a signal, and a name that is no program.
+# The programs as they are run: a file, arguments, a pipe that gives small pieces, a terminal's few bytes, a full disk, a folder for
+# input, a signal, and a name that is no program.
 set -u
 CDPATH='' cd -- "$(dirname -- "$0")" || exit 2
 part=runs
@@ -12,6 +12,18 @@ for name in listing messages gaps board numbers; do
     expect 0 ./trivsome $name <"$(stored $name)/stdin" >"$work/file" 2>"$work/said"
     cmp "$work/file" "$(stored $name)/stdout" || differs "$name prints something else"
 done
+
+# gaps takes one argument; to any other it says so and does nothing else
+expect 0 ./trivsome gaps give-up <"$(stored gaps)/stdin" >"$work/file" 2>"$work/said"
+cmp "$work/file" tests/gaps/give-up || differs "gaps give-up prints something else"
+refuses() { # ARGUMENT..
+    expect 1 ./trivsome gaps "$@" <samples/capture >"$work/file" 2>"$work/said"
+    echo 'gaps: the only argument is give-up' | cmp - "$work/said" || differs "gaps $* says something else: $(cat "$work/said")"
+    [ ! -s "$work/file" ] || differs "gaps $* prints something"
+}
+for word in give-u give-ups Give-up -- ''; do refuses "$word"; done
+refuses give-up give-up
+refuses give-up ''
 
 listing() { ./trivsome listing 2>"$work/said"; }
 
