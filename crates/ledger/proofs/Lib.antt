@@ -11,6 +11,7 @@ pub mod GiveUpLaws
 pub mod Series
 pub mod GivingUp
 pub mod Twenty
+pub mod FloorsLeft
 pub mod AsBefore
 pub mod Values
 pub mod EdgesHold

@@ -15,11 +15,11 @@ use Rattle.ledger.proofs.TurnLaws.{turn-falls, number-settled}
 use Rattle.ledger.proofs.SettledLaws.{runs-above, highest-settled}
 
 -- the ends of the numbers of a set up to a bound
-abbrev endsOf : (ℕ → Bool) → ℕ → List ℕ
+abbrev pub endsOf : (ℕ → Bool) → ℕ → List ℕ
 endsOf f zero = []
 endsOf f (suc k) = cond (f (suc k)) (withNumber (suc k) (endsOf f k)) (endsOf f k)
 
-ends-fall : (f : ℕ → Bool) (k : ℕ) → falling (k + 1) (endsOf f k) ≡ true
+pub ends-fall : (f : ℕ → Bool) (k : ℕ) → falling (k + 1) (endsOf f k) ≡ true
 ends-fall f zero = refl
 ends-fall f (suc k) = go (f (suc k)) (falls-under (k + 1) (suc k + 1) (endsOf f k) (omega arith) (ends-fall f k))
   where
@@ -63,12 +63,26 @@ ends-hold f zero y lo = rw (lt-leb y 0 (omega arith)) refl
 ends-hold f (suc k) y lo = hold-next f k (λ (z : ℕ) (one : 1 ≤ z). ends-hold f k z one) y lo
 
 -- those up to its highest number hold the whole set
-ends-all : (f : ℕ → Bool) (top y : ℕ) → Highest f top → 1 ≤ y → settledAt (endsOf f top) y ≡ f y
+pub ends-all : (f : ℕ → Bool) (top y : ℕ) → Highest f top → 1 ≤ y → settledAt (endsOf f top) y ≡ f y
 ends-all f top y hi lo = ends-hold f top y lo ∙ go (leb y top) refl
   where
     go : (t : Bool) → leb y top ≡ t → (t && f y) ≡ f y
     go true p = refl
     go false p = sym (hi .none-above y (leb-false y top p))
+
+-- their highest is the set's, and their runs are as many as start in it
+pub ends-top : (f : ℕ → Bool) (top : ℕ) → Highest f top → highestIn (endsOf f top) ≡ top
+ends-top f top hi =
+    let es = endsOf f top in
+    highest-once f (highestIn es) top
+    (highest-same (settledAt es) f (λ (y : ℕ) (lo : 1 ≤ y). ends-all f top y hi lo) (highestIn es) (ends-highest (top + 1) es (ends-fall f top))) hi
+
+pub ends-count : (f : ℕ → Bool) (top : ℕ) → Highest f top → runsIn (endsOf f top) ≡ runsTo f top
+ends-count f top hi =
+    let es = endsOf f top in
+    sym (ends-runs (top + 1) es (ends-fall f top) .0)
+    ∙ runs-same (settledAt es) f (highestIn es) (λ (y : ℕ) (lo : 1 ≤ y) (up : y ≤ highestIn es). ends-all f top y hi lo)
+    ∙ ap (λ (t : ℕ). runsTo f t) (ends-top f top hi)
 
 -- the count of starting runs is the number of longest runs, whatever the set
 runs-counted : (f : ℕ → Bool) (top : ℕ) → Highest f top → HasRuns f 0 top (runsTo f top)
@@ -76,14 +90,11 @@ runs-counted f top hi =
     let es = endsOf f top in
     let falls : falling (top + 1) es ≡ true = ends-fall f top in
     let same : (y : ℕ) → 1 ≤ y → settledAt es y ≡ f y = λ (y : ℕ) (lo : 1 ≤ y). ends-all f top y hi lo in
-    let highest : highestIn es ≡ top = highest-once f (highestIn es) top (highest-same (settledAt es) f same (highestIn es) (ends-highest (top + 1) es falls)) hi in
-    let runs : runsIn es ≡ runsTo f top =
-    sym (ends-runs (top + 1) es falls .0) ∙ runs-same (settledAt es) f (highestIn es) (λ (y : ℕ) (lo : 1 ≤ y) (up : y ≤ highestIn es). same y lo) ∙ ap (λ (t : ℕ). runsTo f t) highest in
     record {
       first = firstOf es;
       last = lastOf es;
-      are-runs = subst (λ (r : ℕ). RunsOf f 0 top r (firstOf es) (lastOf es)) runs
-          (subst (λ (t : ℕ). RunsOf f 0 t (runsIn es) (firstOf es) (lastOf es)) highest
+      are-runs = subst (λ (r : ℕ). RunsOf f 0 top r (firstOf es) (lastOf es)) (ends-count f top hi)
+          (subst (λ (t : ℕ). RunsOf f 0 t (runsIn es) (firstOf es) (lastOf es)) (ends-top f top hi)
           (runs-of-same (settledAt es) f same 0 (highestIn es) (runsIn es) (firstOf es) (lastOf es) (ends-are-runs (top + 1) es falls)));
     }
 

@@ -3,5 +3,6 @@ pub mod Sets
 pub mod Ends
 pub mod Calls
 pub mod History
+pub mod Floors
 pub mod Before
 pub mod Edges
