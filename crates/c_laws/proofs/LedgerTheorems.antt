@@ -3,8 +3,8 @@ use Prim.Native.Nat.{ℕ, zero, suc, _+_, _-_, _*_, _/_, _%_, _≤_}
 use mathlib.Core.Path.{_≡_, refl, sym, ap, subst, _∙_}
 use mathlib.Core.Bool.{Bool, true, false, cond, not, _||_}
 use native.Mathlib.Omega.{arith}
-use lib.Dec.{eqb, ltb}
-use borrow.Author.Tests.{eqb-true, eqb-false, ne-eqb, ltb-false}
+use lib.Dec.{leb, eqb, ltb}
+use borrow.Author.Tests.{leb-true, leb-false, eqb-true, eqb-false, ne-eqb, ltb-false}
 use Rattle.digits.proofs.Bools.{no-false}
 use Rattle.ledger.specs.Sets.{with, countTo}
 use Rattle.ledger.specs.Ends.{falling, settledAt, highestIn, settledIn, firstOf, lastOf, runsIn, turned, withNumber, floorFits, fitted}
@@ -15,10 +15,12 @@ use Rattle.ledger.specs.declared.Arrived.{Arrived}
 use Rattle.ledger.specs.declared.Figure.{Figure}
 use Rattle.ledger.specs.declared.RunAt.{RunAt}
 use Rattle.ledger.specs.declared.GaveUp.{GaveUp}
-use Rattle.ledger.proofs.EndLaws.{both-left, falls-bound}
+use Rattle.ledger.proofs.EndLaws.{both-left, both-right, falls-bound, odd-settled}
 use Rattle.ledger.proofs.SetLaws.{count-same}
 use Rattle.ledger.proofs.TrueLaws.{ends-settled}
-use Rattle.ledger.proofs.TurnLaws.{turn-falls, number-settled, fitted-falls, fitted-from}
+use Rattle.ledger.proofs.TurnLaws.{turn-falls, number-settled, from-fewer, fitted-falls, fitted-from}
+use Rattle.ledger.proofs.FloorLaws.{Fits, no-floor, a-floor, fits-is, fits-below}
+use Rattle.ledger.proofs.SettledLaws.{count-all}
 use Rattle.ledger.proofs.ArriveLaws.{valid-is, arrive-damaged, Arrives, outside, under, repeats, full, new, arrives}
 use Rattle.ledger.proofs.GiveUpLaws.{give-up-damaged, Gives, no-run, a-run, gives}
 use Rattle.c_outcomes.specs.Outcomes.{answerPart}
@@ -82,8 +84,35 @@ count-with f n (suc k) lo hi miss = go (eqb (suc k) n) refl (f (suc k)) refl (λ
         omega (arith, count-same (with n f) f k (λ y one le. ap (λ (b : Bool). b || f y) (ne-eqb y n (λ e. omega (arith, e, eqb-true (suc k) n p)))))
     go false p t q ih = let apart : suc k ≡ n → ⊥ = eqb-false (suc k) n p in omega (arith, ih (omega arith))
 
--- so many more are then settled
-pub arrival-grows : (l : Ledger) (n : ℕ) → settledIn (arrivedOf l n .ledger .ends) ≡ settledIn (l .ends) + heardMore (arrivedOf l n .answer)
+-- up to a higher number no fewer are counted
+count-rises : (f : ℕ → Bool) (a b : ℕ) → a ≤ b → countTo f a ≤ countTo f b
+count-rises f a zero le = let q : a ≡ 0 = omega arith in rw q (omega arith)
+count-rises f a (suc b) le = go (leb a b) refl (λ lo. count-rises f a b lo)
+  where
+    go : (t : Bool) → leb a b ≡ t → (a ≤ b → countTo f a ≤ countTo f b) → countTo f a ≤ countTo f (suc b)
+    go true p ih = omega (arith, ih (leb-true a b p))
+    go false p ih = let q : a ≡ suc b = omega (arith, leb-false a b p) in rw q (omega arith)
+
+-- what was given up is settled
+given-settled : (l : Ledger) → valid l ≡ true → l .given ≤ settledIn (l .ends)
+given-settled l v = go (fits-is (l .floor) (l .given) (l .ends) (both-right (falling (mostNumber + 1) (l .ends)) (floorFits (l .floor) (l .given) (l .ends)) (valid-is l ∙ v)))
+  where
+    go : Fits (l .floor) (l .given) (l .ends) → l .given ≤ settledIn (l .ends)
+    go (no-floor p q) = omega arith
+    go (a-floor a) =
+        let es = l .ends in
+        let below : l .floor ≤ highestIn es = fits-below (mostNumber + 1) (l .floor) (l .given) es (valid-falls l v) (a-floor a) in
+        let all : countTo (settledAt es) (l .floor) ≡ countTo (settledAt es) 0 + (l .floor - 0) =
+        count-all (settledAt es) 0 (l .floor) (omega arith)
+        (λ y lo hi. odd-settled es y (omega (arith, a .odd, a .none-under, from-fewer 1 y es (omega arith), from-fewer y (l .floor + 1) es (omega arith)))) in
+        omega (arith, a .most, count-rises (settledAt es) (l .floor) (highestIn es) below, ends-settled (mostNumber + 1) es (highestIn es) (valid-falls l v) (omega arith))
+
+-- how many numbers a ledger has heard: those settled that were not given up
+abbrev pub heardBy : Ledger → ℕ
+heardBy l = settledIn (l .ends) - l .given
+
+-- so many more are then heard
+pub arrival-grows : (l : Ledger) (n : ℕ) → heardBy (arrivedOf l n .ledger) ≡ heardBy l + heardMore (arrivedOf l n .answer)
 arrival-grows l n = go (valid l) refl
   where
     grown : falling (mostNumber + 1) (l .ends) ≡ true → 1 ≤ n → n ≤ mostNumber → settledAt (l .ends) n ≡ false
@@ -102,16 +131,16 @@ arrival-grows l n = go (valid l) refl
         ∙ same ∙ count-with (settledAt es) n k lo (omega arith) miss
         ∙ ap (λ (c : ℕ). c + 1) (ends-settled (mostNumber + 1) es k falls (omega arith))
 
-    by-case : valid l ≡ true → (x : Arrived) → Arrives l n x → settledIn (x .ledger .ends) ≡ settledIn (l .ends) + heardMore (x .answer)
+    by-case : valid l ≡ true → (x : Arrived) → Arrives l n x → heardBy (x .ledger) ≡ heardBy l + heardMore (x .answer)
     by-case v x (outside e) = omega arith
     by-case v x (under lo hi low) = omega arith
     by-case v x (repeats lo hi above e) = omega arith
     by-case v x (full lo hi above e f) = omega arith
-    by-case v x (new lo hi above e f) = grown (valid-falls l v) lo hi e f
+    by-case v x (new lo hi above e f) = omega (arith, grown (valid-falls l v) lo hi e f, given-settled l v)
 
-    go : (v : Bool) → valid l ≡ v → settledIn (arrivedOf l n .ledger .ends) ≡ settledIn (l .ends) + heardMore (arrivedOf l n .answer)
+    go : (v : Bool) → valid l ≡ v → heardBy (arrivedOf l n .ledger) ≡ heardBy l + heardMore (arrivedOf l n .answer)
     go true v = by-case v (arrivedOf l n) (arrives l n v)
-    go false v = subst (λ (x : Arrived). settledIn (x .ledger .ends) ≡ settledIn (l .ends) + heardMore (x .answer)) (arrive-damaged l n v) (omega arith)
+    go false v = subst (λ (x : Arrived). heardBy (x .ledger) ≡ heardBy l + heardMore (x .answer)) (arrive-damaged l n v) (omega arith)
 
 -- ---- figures
 -- the answer that a figure's outcome tells
