@@ -2,7 +2,7 @@
 ghost use mathlib.Core.Path.{_≡_};
 ghost use mathlib.Core.Bool.{cond};
 ghost use Prim.Native.Nat.{_-_, _≤_};
-ghost use lib.Dec.{leb, eqb};
+ghost use lib.Dec.{leb};
 ghost use lib.ListN.{length, drop};
 ghost use Rattle.ledger.specs.Ends.{places, endsFrom, settledIn, missingIn, floorFits};
 ghost use Rattle.ledger_ends.specs.Looking.{Reach, InOrder, foundIn, seenOf};
