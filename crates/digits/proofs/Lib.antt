@@ -7,6 +7,7 @@ pub mod Values
 pub mod Places
 pub mod Within
 pub mod ReadSteps
+pub mod TableLaws
 pub mod WriteSteps
 pub mod PutLaws
 pub mod FieldLaws

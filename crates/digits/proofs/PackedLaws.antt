@@ -15,13 +15,13 @@ use Rattle.digits.proofs.Powers.{pow-some}
 use Rattle.digits.proofs.Bools.{and-left, and-right, and-both}
 
 -- ---- one byte
-good-byteOf : (d : ℕ) → d < 100 → goodByte (byteOf d) ≡ true
+pub good-byteOf : (d : ℕ) → d < 100 → goodByte (byteOf d) ≡ true
 good-byteOf d h =
     and-both
     (le-leb ((d / 10 * 16 + d % 10) / 16) 9 (omega arith))
     (le-leb ((d / 10 * 16 + d % 10) % 16) 9 (omega arith))
 
-two-byteOf : (d : ℕ) → d < 100 → two (byteOf d) ≡ d
+pub two-byteOf : (d : ℕ) → d < 100 → two (byteOf d) ≡ d
 two-byteOf d h = omega arith
 
 -- a good byte's halves

@@ -1,4 +1,5 @@
 -- Packed digits, and a field of them read and written: definitions that the contracts cite.
 pub mod Tests
 pub mod Packed
+pub mod Table
 pub mod Fields

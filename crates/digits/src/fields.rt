@@ -4,7 +4,8 @@ ghost use Prim.Native.Nat.{_+_, _*_, _/_, _%_, _<_, _≤_, _^_};
 ghost use lib.ListN.{length};
 ghost use lib.Seq.{sets};
 ghost use Rattle.digits.specs.Packed.{byteOf, packed};
-ghost use Rattle.digits.specs.Fields.{fieldAt, putAnswer, putAt};
+ghost use Rattle.digits.specs.Fields.{fieldAt, fieldBy, putAnswer, putAt};
+use crate::table::table;
 
 // The most bytes whose number always fits a u64.
 pub const WIDEST: usize = 9;
@@ -32,9 +33,9 @@ pub enum Put {
     Outside,
 }
 
-// The number in the n bytes from a place.
-pub fn read(s: &[u8], at: usize, n: usize) -> Field
-    ensures { λ r. ⌜ r ≡ fieldAt (now (s .entry)) at n ⌝ }
+// The number in the n bytes from a place, each byte looked up in a lent table: that of `table`, made once for many fields.
+pub fn read_by(table: &[u8; 256], s: &[u8], at: usize, n: usize) -> Field
+    ensures { λ r. ⌜ r ≡ fieldBy (now (table .entry)) (now (s .entry)) at n ⌝ }
 {
     if WIDEST < n {
         return Field::Outside;
@@ -49,18 +50,25 @@ pub fn read(s: &[u8], at: usize, n: usize) -> Field
     let mut k = 0;
     while k < n {
         let b = s[at + k];
-        let high = b / 16;
-        let low = b % 16;
-        if 9 < high {
-            return Field::Bad(2 * k);
-        }
-        if 9 < low {
+        let d = table[b as usize];
+        if 99 < d {
+            if 9 < b / 16 {
+                return Field::Bad(2 * k);
+            }
             return Field::Bad(2 * k + 1);
         }
-        v = v * 100 + (high * 10 + low) as u64;
+        v = v * 100 + d as u64;
         k += 1;
     }
     Field::Value(v)
+}
+
+// The number in the n bytes from a place.
+pub fn read(s: &[u8], at: usize, n: usize) -> Field
+    ensures { λ r. ⌜ r ≡ fieldAt (now (s .entry)) at n ⌝ }
+{
+    let table = table();
+    read_by(&table, s, at, n)
 }
 
 // The first number that n bytes cannot hold.
