@@ -14,6 +14,7 @@ CRATES = {
     "messages": "program_messages",
     "gaps": "program_gaps",
     "board": "program_board",
+    "table": "program_table",
     "worked": "test_worked",
     "numbers": "test_numbers",
 }

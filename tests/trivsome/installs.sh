@@ -17,6 +17,8 @@ programs_of() { # FOLDER
     done
     expect 0 without_kit nobody "$1/bin/trivsome" gaps give-up <"$(stored gaps)/stdin" >"$work/file" 2>"$work/said"
     cmp "$work/file" tests/gaps/give-up || differs "$1: gaps give-up prints something else: $(cat "$work/said")"
+    expect 0 without_kit nobody "$1/bin/trivsome" table </dev/null >"$work/file" 2>"$work/said"
+    cmp "$work/file" "$(stored table)/stdout" || differs "$1: table prints something else: $(cat "$work/said")"
     expect 0 without_kit nobody "$1/bin/trivsome" messages <samples/capture >"$work/file"
     expect 1 without_kit nobody "$1/bin/trivsome" listing </ >"$work/file" 2>"$work/said"
     expect 0 without_kit nobody "$1/bin/trivsome" --help >"$work/help"

@@ -13,6 +13,10 @@ for name in listing messages gaps board numbers; do
     cmp "$work/file" "$(stored $name)/stdout" || differs "$name prints something else"
 done
 
+# table reads nothing, not even from a terminal that is gone
+expect 0 ./trivsome table <&- >"$work/file" 2>"$work/said"
+cmp "$work/file" "$(stored table)/stdout" || differs "table prints something else"
+
 # gaps takes one argument; to any other it says so and does nothing else
 expect 0 ./trivsome gaps give-up <"$(stored gaps)/stdin" >"$work/file" 2>"$work/said"
 cmp "$work/file" tests/gaps/give-up || differs "gaps give-up prints something else"
@@ -55,6 +59,8 @@ for name in listing messages gaps board; do
     says "$name: cannot write standard output" "$work/said"
     expect 1 ./trivsome $name <"$(stored $name)/stdin" >"$work/full/out" 2>&-
 done
+expect 1 ./trivsome table >"$work/full/out" 2>"$work/said"
+says "table: cannot write standard output" "$work/said"
 
 # those whose standard input is our pipe
 readers() { for process in /proc/[0-9]*; do [ "$(readlink "$process/fd/0")" != "$work/pipe" ] || echo "${process#/proc/}"; done; }
@@ -96,7 +102,7 @@ for word in --help -h; do
 done
 
 # each program is in the help once; those of the tests are behind, by name alone
-for name in listing messages gaps board; do
+for name in listing messages gaps board table; do
     [ "$(sed '/tests/,$d' "$work/help" | grep -c "^  $name ")" -eq 1 ] || differs "--help does not name $name"
 done
 for name in numbers worked; do

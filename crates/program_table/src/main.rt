@@ -1,0 +1,14 @@
+// Reads nothing and prints the number of the two packed digits of each byte, 16 rows of 16, with 255 where one of them is bad.
+mod rows;
+
+use libc::STDERR_FILENO;
+use libc::STDOUT_FILENO;
+use rows::put_table;
+
+fn main() {
+    let mut out = [0; 1024];
+    let to = put_table(&mut out, 0);
+    if !io::write_all(STDOUT_FILENO, &out[..to]) {
+        io::write_all(STDERR_FILENO, b"table: cannot write standard output\n");
+    }
+}
