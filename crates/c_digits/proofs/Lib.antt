@@ -1,0 +1,2 @@
+-- The theorems that belong to no one function.
+pub mod Determined
