@@ -1,15 +1,37 @@
 //! Packed digits: a byte holds two decimal digits, the high half first. A half above 9 is a bad digit.
 
+/// What the table has for a byte with a bad digit.
+pub const MARK: u8 = 255;
+
+/// The number of a byte's two digits, 0 to 99, or `None` if one is bad.
+pub fn two_digits(byte: u8) -> Option<u8> {
+    let (high, low) = (byte >> 4, byte & 0x0F);
+    if high > 9 || low > 9 {
+        return None;
+    }
+    Some(high * 10 + low)
+}
+
+/// For every byte the number of its two digits, or the mark. It is counted and not worked out: the bytes with two digits, in
+/// their order, have the numbers 0 to 99.
+pub fn table() -> [u8; 256] {
+    let mut table = [MARK; 256];
+    let mut number = 0;
+    for high in 0..10 {
+        for low in 0..10 {
+            table[16 * high + low] = number;
+            number += 1;
+        }
+    }
+    table
+}
+
 /// The number that packed digits say, or `None` if there is a bad digit. A field has at most nine bytes.
 pub fn number(field: &[u8]) -> Option<u64> {
     debug_assert!(field.len() <= 9);
     let mut number = 0;
     for &byte in field {
-        let (high, low) = (byte >> 4, byte & 0x0F);
-        if high > 9 || low > 9 {
-            return None;
-        }
-        number = number * 100 + u64::from(high * 10 + low);
+        number = number * 100 + u64::from(two_digits(byte)?);
     }
     Some(number)
 }

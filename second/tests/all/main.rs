@@ -3,6 +3,7 @@
 mod board;
 mod build;
 mod comparing;
+mod digits;
 mod edges;
 mod gaps;
 mod generating;
