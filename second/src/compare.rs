@@ -12,7 +12,7 @@ use crate::generate::Generator;
 use crate::reading::read_at;
 use crate::seen::{around, Seen};
 use crate::series::texts;
-use crate::{board, gaps, listing, messages, numbers};
+use crate::{board, gaps, listing, messages, numbers, table};
 
 /// The most frames of one line, which are enough to fill a board, and the frames of the shorter lines behind each.
 const LINE: usize = 25_000;
@@ -26,6 +26,8 @@ const ENOUGH: usize = 100_000;
 enum Given {
     Line,
     Series,
+    /// It reads nothing, and always prints the same.
+    Nothing,
 }
 
 /// A program by its name and the words behind it, and what this package does for the same.
@@ -35,7 +37,7 @@ struct Program {
     own: fn(&[u8], &mut Vec<u8>) -> io::Result<()>,
 }
 
-const PROGRAMS: [Program; 6] = [
+const PROGRAMS: [Program; 7] = [
     Program { call: &["listing"], given: Given::Line, own: |input, output| listing::list(input, output) },
     Program { call: &["messages"], given: Given::Line, own: |input, output| messages::tell(input, output) },
     Program { call: &["gaps"], given: Given::Line, own: |input, output| gaps::tell(input, output, WhenFull::Refuse) },
@@ -46,6 +48,7 @@ const PROGRAMS: [Program; 6] = [
     },
     Program { call: &["board"], given: Given::Line, own: |input, output| board::tell(input, output) },
     Program { call: &["numbers"], given: Given::Series, own: |input, output| numbers::tell(input, output) },
+    Program { call: &["table"], given: Given::Nothing, own: |_, output| table::tell(output) },
 ];
 
 impl Program {
@@ -80,8 +83,8 @@ impl Comparison {
         Ok(Comparison { trivsome, names, folder })
     }
 
-    /// Compares all programs over so many frames, some shorter lines, and as many arrivals. Prints a line for each program, or
-    /// gives the first difference.
+    /// Compares all programs over so many frames, some shorter lines, and as many arrivals, and those that read nothing once.
+    /// Prints a line for each program, or gives the first difference.
     pub fn run(&self, seed: u64, frames: usize) -> Result<(), String> {
         if let Some(program) = PROGRAMS.iter().find(|program| frames >= ENOUGH && !self.has(program)) {
             return Err(format!("{} --help lists no program {}", self.trivsome.display(), program.name()));
@@ -104,6 +107,7 @@ impl Comparison {
             let within = |what: String| format!("seed {seed}, text {place}: {what}");
             self.compare_all(Given::Series, text.as_bytes(), &mut rows).map_err(within)?;
         }
+        self.compare_all(Given::Nothing, &[], &mut rows)?;
         println!("{frames} frames and {lines} lines, {bytes} bytes\n{seen}");
         for (program, rows) in PROGRAMS.iter().zip(rows) {
             if self.has(program) {
@@ -147,7 +151,7 @@ impl Comparison {
         }
         let mut text = difference(program.given, input, &own, &proved);
         let kept = self.folder.with_extension(program.name());
-        if fs::write(&kept, input).is_ok() {
+        if program.given != Given::Nothing && fs::write(&kept, input).is_ok() {
             text += &format!("\nthe input is kept as {}", kept.display());
         }
         Err(text)

@@ -21,6 +21,7 @@ pub mod reading;
 pub mod seen;
 pub mod series;
 pub mod six;
+pub mod table;
 pub mod times;
 pub mod twelve;
 pub mod units;

@@ -8,8 +8,8 @@ use second::compare::Comparison;
 
 const USAGE: &str = "compare [--seed N] [--frames M] [--forever] [TRIVSOME]
 Makes lines of M frames (100,000) from a seed (1), runs each proved program that TRIVSOME --help lists (../trivsome, seen
-from this package) on them, and compares what it prints with what this package says. Ends with 1 at the first difference,
-and with 100,000 frames or more also where a program is not listed.
+from this package) on them, or once if it reads nothing, and compares what it prints with what this package says. Ends with
+1 at the first difference, and with 100,000 frames or more also where a program is not listed.
 --forever goes on with new seeds, the first from the clock, until it is stopped.";
 
 struct Wanted {

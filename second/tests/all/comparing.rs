@@ -17,6 +17,7 @@ fn script(listed: &str, behind: &str) -> PathBuf {
         ("gaps", env!("CARGO_BIN_EXE_gaps")),
         ("board", env!("CARGO_BIN_EXE_board")),
         ("numbers", env!("CARGO_BIN_EXE_numbers")),
+        ("table", env!("CARGO_BIN_EXE_table")),
     ];
     let mut text = format!("#!/bin/sh\ncase $1 in\n--help) echo 'Usage: this'; printf '  %s words\\n' {listed} ;;\n");
     for (program, path) in programs {
@@ -45,9 +46,9 @@ fn compare(listed: &str, behind: &str, frames: &str) -> (Option<i32>, String) {
 
 #[test]
 fn the_same() {
-    let (status, text) = compare("listing messages gaps board numbers", "cat", "300");
+    let (status, text) = compare("listing messages gaps board numbers table", "cat", "300");
     assert_eq!(status, Some(0), "{text}");
-    for program in ["listing", "messages", "gaps", "gaps give-up", "board", "numbers"] {
+    for program in ["listing", "messages", "gaps", "gaps give-up", "board", "numbers", "table"] {
         assert!(text.lines().any(|line| line.starts_with(&format!("{program}: ")) && line.ends_with(" all the same")));
     }
 }
@@ -62,6 +63,9 @@ fn only_what_is_listed() {
     let (status, text) = compare("worked gaps", "cat", "100000");
     assert_eq!(status, Some(1), "{text}");
     assert!(text.contains(" lists no program listing\n"), "{text}");
+    let (status, text) = compare("listing messages gaps board numbers", "cat", "100000");
+    assert_eq!(status, Some(1), "{text}");
+    assert!(text.contains(" lists no program table\n"), "{text}");
 }
 
 #[test]
@@ -77,6 +81,7 @@ fn a_difference() {
         ("numbers", "sed 's/ new$/ repeat/'", " repeat", " new"),
         ("numbers", "sed 's/^give-up [1-9].*-/give-up 1-/'", "give-up 1-", "give-up "),
         ("numbers", "sed 's/ given-up [1-9].*/ given-up 0/'", " given-up 0", " given-up "),
+        ("table", "sed '3s/ 25 / 26 /'", " 24  26  26 ", " 24  25  26 "),
     ] {
         let (status, text) = compare(program, behind, "300");
         assert_eq!(status, Some(1), "{text}");

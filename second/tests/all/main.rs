@@ -13,6 +13,7 @@ mod messages;
 mod model;
 mod numbers;
 mod reading;
+mod table;
 mod walking;
 mod worked;
 mod writing;
