@@ -1,6 +1,6 @@
 //! The proved library for programs in Rust. Every call takes any bytes and any numbers, and answers by the rules' numbers
-//! (docs/RULES.md): frames at any place of a line are read and messages written, lines walked, frame numbers recorded, and the
-//! last quotes of stocks kept.
+//! (docs/RULES.md): frames at any place of a line are read and messages written, lines walked, frame numbers recorded, the last
+//! quotes of stocks kept, and packed digits read.
 //!
 //! ```
 //! # let bytes = [0x1B, 0x00, 0x14, 0x01, 0x05, 0x01, 0x00, 0x00, 0x00, 0x01, 0x09, 0x19, 0x0D, 0x0A];
@@ -39,6 +39,15 @@
 //! # Ok::<(), trivsome::NotTaken>(())
 //! ```
 //!
+//! Bytes of packed digits are read by a table that is taken once, and a single one by a call:
+//!
+//! ```
+//! let table = trivsome::digit_table();
+//! let time = [0x09_u8, 0x30, 0x5A].map(|byte| table[usize::from(byte)]);
+//! assert_eq!(time, [9, 30, trivsome::BAD_DIGIT]);
+//! assert_eq!([0x30, 0x5A].map(trivsome::two_digits), [Some(30), None]);
+//! ```
+//!
 //! The calls themselves are in `raw`, with all the unsafe code that there is; the rest gives their numbers names.
 #![deny(missing_docs)]
 
@@ -47,6 +56,8 @@ pub mod raw;
 // `raw` alone may have unsafe code: here not even an attribute of their own lets it in.
 #[forbid(unsafe_code)]
 mod board;
+#[forbid(unsafe_code)]
+mod digits;
 #[forbid(unsafe_code)]
 mod halt;
 #[forbid(unsafe_code)]
@@ -67,6 +78,7 @@ mod units;
 mod walking;
 
 pub use board::{Board, NotTaken, Row, Rows};
+pub use digits::{digit_table, two_digits, BAD_DIGIT};
 pub use halt::{read_halt, read_halt_into, write_halt, Event, Halt, Resume, Sending};
 pub use ledger::{Arrival, Ledger, LedgerRefusal, Run};
 pub use message::{read_message, write, Message};

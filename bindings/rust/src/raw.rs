@@ -4,7 +4,7 @@
 //! these are the format (8 to 15), the length or the bytes gone past (16 to 31) and the sequence number (32 to 63); of a
 //! writing the length; of a figure the figure, and of a board how many rows are in use; of a run, also of one that is given
 //! up, its first number (8 to 35) and its last (36 to 63); of an arrival how many numbers more are heard. A refused call leaves
-//! what it was lent as it came.
+//! what it was lent as it came. Clearing a ledger and the calls on packed digits refuse nothing, and have no outcome.
 #![allow(unsafe_code)]
 
 use std::mem::{offset_of, size_of};
@@ -124,6 +124,8 @@ mod calls {
             amounts: *mut [u32; 23],
         ) -> u64;
         pub fn trivsome_board_rows(heads: *const u64, head_count: usize, cells: *const u32, cell_count: usize) -> u64;
+        pub fn trivsome_two_digits(byte: u8) -> u8;
+        pub fn trivsome_digit_table(table: *mut [u8; 256]);
     }
 }
 
@@ -379,4 +381,18 @@ pub fn board_row(heads: &[u64], cells: &[u32], place: usize, row: &mut Row) -> u
 pub fn board_rows(heads: &[u64], cells: &[u32]) -> u64 {
     // SAFETY: heads and cells are lent for the call, each with its length.
     unsafe { calls::trivsome_board_rows(heads.as_ptr(), heads.len(), cells.as_ptr(), cells.len()) }
+}
+
+/// The number of a byte's two digits, 0 to 99, or 255 where one is bad.
+#[inline]
+pub fn two_digits(byte: u8) -> u8 {
+    // SAFETY: nothing is lent.
+    unsafe { calls::trivsome_two_digits(byte) }
+}
+
+/// Fills a table: at the place of every byte is then what `two_digits` answers of it.
+#[inline]
+pub fn digit_table(table: &mut [u8; 256]) {
+    // SAFETY: the table is lent by a reference that nothing else holds.
+    unsafe { calls::trivsome_digit_table(table) }
 }
