@@ -1,10 +1,12 @@
-//! One comparison: lines read, messages written, lines walked, numbers recorded and quotes kept, all from one seed.
+//! One comparison: every packed byte, and lines read, messages written, lines walked, numbers recorded and quotes kept, all from
+//! one seed.
 
 use second::generate::Generator;
 use second::random::Random;
 
 use crate::arrivals::Arrivals;
 use crate::board::Boards;
+use crate::digits::Digits;
 use crate::reading::Readings;
 use crate::walking::Walks;
 use crate::writing::Writings;
@@ -16,9 +18,12 @@ const SHORT_LINES: usize = 50;
 /// From so many frames on everything that is counted has to occur.
 const ENOUGH: usize = 100_000;
 
-/// Compares over so many frames, some short lines, and as many arrivals and messages on boards. Prints a line for each part, or
-/// gives the first difference.
+/// Compares over all packed bytes, so many frames, some short lines, and as many arrivals and messages on boards. Prints a line
+/// for each part, or gives the first difference.
 pub fn compare(seed: u64, frames: usize) -> Result<(), String> {
+    let mut digits = Digits::default();
+    digits.all()?;
+    println!("digits: {digits}");
     let mut generator = Generator::new(seed);
     let mut random = Random::new(seed.rotate_left(32));
     let (mut readings, mut writings, mut walks) = (Readings::default(), Writings::default(), Walks::default());
@@ -43,8 +48,8 @@ pub fn compare(seed: u64, frames: usize) -> Result<(), String> {
     println!("ledger: {arrivals}");
     boards.series(&mut other, frames)?;
     println!("boards: {boards}");
-    let missed = readings.missed().or(writings.missed()).or(walks.missed()).or(arrivals.missed()).or(boards.missed());
-    match missed {
+    let of_lines = readings.missed().or(writings.missed()).or(walks.missed());
+    match digits.missed().or(of_lines).or(arrivals.missed()).or(boards.missed()) {
         Some(what) if frames >= ENOUGH => Err(format!("{what} did not occur")),
         _ => Ok(()),
     }

@@ -1,4 +1,5 @@
-//! The second program and the proved library, compared call by call over generated lines, messages and series.
+//! The second program and the proved library, compared call by call over generated lines, messages and series, and every packed
+//! byte.
 //!
 //! Each part counts what occurred, and gives the first difference as a text that a person can follow.
 
@@ -7,6 +8,7 @@ mod board;
 mod board_calls;
 mod calls;
 mod damage;
+mod digits;
 mod disorder;
 mod quotes;
 mod reading;
