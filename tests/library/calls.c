@@ -793,6 +793,32 @@ static void full_board(void)
     memset(&board, 0, sizeof board), memset(&other, 0, sizeof other);
 }
 
+// A packed byte by the call, at the edges of both halves.
+static void digits(void)
+{
+    static const uint8_t good[8][2] = {{0x00, 0}, {0x01, 1}, {0x09, 9}, {0x10, 10}, {0x19, 19}, {0x42, 42}, {0x90, 90}, {0x99, 99}};
+    static const uint8_t bad[10] = {0x0A, 0x0F, 0x1A, 0x9A, 0x9F, 0xA0, 0xA9, 0xAA, 0xF0, 0xFF};
+    for (int i = 0; i < 8; i++) HOLDS(trivsome_two_digits(good[i][0]) == good[i][1]);
+    for (int i = 0; i < 10; i++) HOLDS(trivsome_two_digits(bad[i]) == 255);
+    HOLDS(TRIVSOME_BAD_DIGIT == 255);
+}
+
+// The table, filled over memory that holds another byte, with such a byte on either side.
+static void digit_table(uint8_t before)
+{
+    uint8_t memory[258], *table = memory + 1;
+    memset(memory, before, sizeof memory);
+    trivsome_digit_table(table);
+    HOLDS(memory[0] == before && memory[257] == before);
+    HOLDS(table[0x00] == 0 && table[0x09] == 9 && table[0x0A] == 255 && table[0x10] == 10);
+    HOLDS(table[0x99] == 99 && table[0x9A] == 255 && table[0xA0] == 255 && table[0xFF] == 255);
+    for (unsigned high = 0; high < 16; high++)
+        for (unsigned low = 0; low < 16; low++) {
+            unsigned byte = 16 * high + low, expected = high > 9 || low > 9 ? 255 : 10 * high + low;
+            HOLDS(table[byte] == expected && trivsome_two_digits((uint8_t)byte) == expected);
+        }
+}
+
 int main(void)
 {
     reading();
@@ -815,5 +841,8 @@ int main(void)
     taking();
     keeping_sides();
     full_board();
+    digits();
+    digit_table(0xA5);
+    digit_table(0x00);
     return wrong;
 }

@@ -84,6 +84,15 @@ static void boards()
     HOLDS(trivsome_board_in_use(board.get()) == 0);
 }
 
+// A table in a vector, in which bytes are looked up.
+static void digits()
+{
+    Bytes table(256), field = {0x09, 0x30, 0x5A};
+    trivsome_digit_table(table.data());
+    HOLDS(table[field[0]] == 9 && table[field[1]] == 30 && table[field[2]] == TRIVSOME_BAD_DIGIT);
+    HOLDS(trivsome_two_digits(field[1]) == 30 && trivsome_two_digits(field[2]) == TRIVSOME_BAD_DIGIT);
+}
+
 int main()
 {
     Bytes empty;
@@ -92,5 +101,6 @@ int main()
     there_and_back();
     ledger();
     boards();
+    digits();
     return wrong;
 }
