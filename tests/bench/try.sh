@@ -36,6 +36,7 @@ part arrivals 'in order' 'with gaps' 'half of them late' 'in order, 64 runs open
 part board 'taken, any of 256 stocks' 'the same, any pairs' 'the same, the trade alone' 'the same, codes that begin alike' \
     "taken, the first row's stock" "taken, the last row's stock" 'refused with 52' 'asked for, any of 256 codes'
 part walk 'six, 9 pairs, 2 MB'
+part digits 'a byte, by the call' 'a byte, by the table taken once' 'the table filled'
 bench/run.py nonsense >"$work/said" 2>&1
 [ $? -eq 2 ] || differs "an unknown part is not refused"
 

@@ -1,8 +1,9 @@
-//! Times the calls of the proved library beside the second program's: reading, writing, arrivals, a board and the walk of a
-//! line. Prints for each a line of words parted by tabs: part, name, bytes, proved and second nanoseconds.
+//! Times the calls of the proved library beside the second program's: reading, writing, arrivals, a board, the walk of a line
+//! and packed digits. Prints for each a line of words parted by tabs: part, name, bytes, proved and second nanoseconds.
 
 mod arrivals;
 mod board;
+mod digits;
 mod kinds;
 mod reading;
 mod timing;
@@ -33,6 +34,7 @@ fn run(effort: Effort) -> Result<(), String> {
     arrivals::arrivals(effort)?.iter().for_each(print);
     board::board(effort)?.iter().for_each(print);
     print(&walking::walking(effort, &kinds)?);
+    digits::digits(effort)?.iter().for_each(print);
     Ok(())
 }
 
