@@ -33,7 +33,7 @@ pub enum Put {
     Outside,
 }
 
-// The number in the n bytes from a place, each byte looked up in a lent table: that of `table`, made once for many fields.
+// The number in the n bytes from a place, each byte looked up in a lent table, as the one of `table`.
 pub fn read_by(table: &[u8; 256], s: &[u8], at: usize, n: usize) -> Field
     ensures { λ r. ⌜ r ≡ fieldBy (now (table .entry)) (now (s .entry)) at n ⌝ }
 {
@@ -63,7 +63,7 @@ pub fn read_by(table: &[u8; 256], s: &[u8], at: usize, n: usize) -> Field
     Field::Value(v)
 }
 
-// The number in the n bytes from a place.
+// The number in the n bytes from a place. It makes a table for its field, so who reads many fields lends one to `read_by`.
 pub fn read(s: &[u8], at: usize, n: usize) -> Field
     ensures { λ r. ⌜ r ≡ fieldAt (now (s .entry)) at n ⌝ }
 {

@@ -2,14 +2,14 @@
 use Prim.Native.Nat.{ℕ, suc, _+_, _≤_, _<_}
 use mathlib.Core.Bool.{Bool, true, false}
 use mathlib.Core.List.{List, [], _∷_, _++_, append-assoc, append-nil}
-use mathlib.Core.Path.{_≡_, ap, sym, subst, _∙_}
+use mathlib.Core.Path.{_≡_, refl, ap, sym, subst, _∙_}
 use native.Mathlib.Omega.{arith}
 use native.Mathlib.Numerals.{add-one}
 use lib.ListN.{length, take, getD}
 use lib.Seq.{take-suc, take-all, length-take-le, length-sets}
 use Rattle.printing.specs.Text.{Puts}
 use Rattle.printing.proofs.TextLaws.{puts-then, puts-none}
-use Rattle.program_table.specs.Printed.{space, spaceIf, aligned, parting, entriesText}
+use Rattle.program_table.specs.Printed.{space, spaceIf, aligned, parting, entriesText, tableText}
 
 -- a space that is wanted
 pub space-put : (wanted : Bool) (at r : ℕ) (out after : List ℕ) → wanted ≡ true → Puts (space ∷ []) at out r after → Puts (spaceIf wanted) at out r after
@@ -45,6 +45,10 @@ next-put xs k x at r q out mid after h e p s =
 -- up to the end all are put
 pub all-put : (xs : List ℕ) (k at r : ℕ) (out after : List ℕ) → length xs ≤ k → Puts (entriesText 0 (take k xs)) at out r after → Puts (entriesText 0 xs) at out r after
 all-put xs k at r out after h p = subst (λ (ys : List ℕ). Puts (entriesText 0 ys) at out r after) (take-all k xs h) p
+
+-- the text is as long as the buffer that it is put into, so that nothing of it is left out
+pub text-whole : length tableText ≡ 1024
+text-whole = refl
 
 -- what is put lies within the buffer
 pub put-within : (text : List ℕ) (at r : ℕ) (out after : List ℕ) → at ≤ length out → Puts text at out r after → r ≡ length (take r after)

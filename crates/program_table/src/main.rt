@@ -5,8 +5,11 @@ use libc::STDERR_FILENO;
 use libc::STDOUT_FILENO;
 use rows::put_table;
 
+// The bytes of the text.
+const TEXT: usize = 1024;
+
 fn main() {
-    let mut out = [0; 1024];
+    let mut out = [0; TEXT];
     let to = put_table(&mut out, 0);
     if !io::write_all(STDOUT_FILENO, &out[..to]) {
         io::write_all(STDERR_FILENO, b"table: cannot write standard output\n");
