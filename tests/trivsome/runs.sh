@@ -13,7 +13,7 @@ for name in listing messages gaps board numbers; do
     cmp "$work/file" "$(stored $name)/stdout" || differs "$name prints something else"
 done
 
-# table reads nothing, not even from a terminal that is gone
+# table reads nothing: its standard input may be closed
 expect 0 ./trivsome table <&- >"$work/file" 2>"$work/said"
 cmp "$work/file" "$(stored table)/stdout" || differs "table prints something else"
 

@@ -8,8 +8,8 @@ use borrow.Author.Tests.{lt-ltb, le-ltb}
 use lib.ListN.{length, take, drop, getD}
 use lib.Seq.{drop-cons}
 use Rattle.digits.specs.Packed.{two}
-use Rattle.digits.specs.Table.{entryIn}
-use Rattle.digits.specs.Fields.{fieldFrom, fieldFromBy, fieldBy}
+use Rattle.digits.specs.Fields.{fieldFrom}
+use Rattle.digits.specs.Lent.{entryIn, fieldFromBy, fieldBy}
 use Rattle.digits.specs.declared.fields.Field.{Field}
 use Rattle.digits.proofs.Within.{within-wide, within-past, within-all}
 
@@ -44,15 +44,15 @@ pub good-next : (v p b : ℕ) (bs : List ℕ) → b / 16 ≤ 9 → b % 16 ≤ 9
 good-next v p b bs g h = rw (le-ltb 9 (b / 16), le-ltb 9 (b % 16))
 
 -- by a table: a marked byte ends the reading, at its high half if that is bad
-marked-high : (t : List ℕ) (v p b : ℕ) (bs : List ℕ) → 99 < entryIn t b → 9 < b / 16 → fieldFromBy t v p (b ∷ bs) ≡ Field.Bad p
+pub marked-high : (t : List ℕ) (v p b : ℕ) (bs : List ℕ) → 99 < entryIn t b → 9 < b / 16 → fieldFromBy t v p (b ∷ bs) ≡ Field.Bad p
 marked-high t v p b bs m h = rw (lt-ltb 99 (entryIn t b), lt-ltb 9 (b / 16))
 
 -- and else at its low half
-marked-low : (t : List ℕ) (v p b : ℕ) (bs : List ℕ) → 99 < entryIn t b → b / 16 ≤ 9 → fieldFromBy t v p (b ∷ bs) ≡ Field.Bad (p + 1)
+pub marked-low : (t : List ℕ) (v p b : ℕ) (bs : List ℕ) → 99 < entryIn t b → b / 16 ≤ 9 → fieldFromBy t v p (b ∷ bs) ≡ Field.Bad (p + 1)
 marked-low t v p b bs m h = rw (lt-ltb 99 (entryIn t b), le-ltb 9 (b / 16))
 
 -- another byte adds its entry
-entry-next : (t : List ℕ) (v p b : ℕ) (bs : List ℕ) → entryIn t b ≤ 99
+pub entry-next : (t : List ℕ) (v p b : ℕ) (bs : List ℕ) → entryIn t b ≤ 99
     → fieldFromBy t v p (b ∷ bs) ≡ fieldFromBy t (v * 100 + entryIn t b) (p + 2) bs
 entry-next t v p b bs h = rw (le-ltb 99 (entryIn t b))
 

@@ -6,7 +6,6 @@ use lib.ListN.{length, take, drop}
 use lib.Seq.{sets}
 use lib.Dec.{leb, ltb}
 use Rattle.digits.specs.Packed.{two, packed}
-use Rattle.digits.specs.Table.{entryIn}
 use Rattle.digits.specs.declared.fields.Field.{Field}
 use Rattle.digits.specs.declared.fields.Put.{Put}
 
@@ -17,24 +16,12 @@ fieldFrom v p (b ∷ bs) =
     let r = fieldFrom (v * 100 + two b) (p + 2) bs in
     cond (ltb 9 (b / 16)) (Field.Bad p) (cond (ltb 9 (b % 16)) (Field.Bad (p + 1)) r)
 
--- the same with each byte looked up in a table t: above 99 it is marked, and its high half is bad, or else its low half
-abbrev pub fieldFromBy : List ℕ → ℕ → ℕ → List ℕ → Field
-fieldFromBy t v p [] = Field.Value v
-fieldFromBy t v p (b ∷ bs) =
-    let d = entryIn t b in
-    let r = fieldFromBy t (v * 100 + d) (p + 2) bs in
-    cond (ltb 99 d) (cond (ltb 9 (b / 16)) (Field.Bad p) (Field.Bad (p + 1))) r
-
 -- n bytes from a place lie within the bytes, and their number within a u64
 abbrev pub within : List ℕ → ℕ → ℕ → Bool
 within s at n = leb n 9 && leb (at + n) (length s)
 
 abbrev pub fieldAt : List ℕ → ℕ → ℕ → Field
 fieldAt s at n = cond (within s at n) (fieldFrom 0 0 (take n (drop at s))) Field.Outside
-
--- the same by a table
-abbrev pub fieldBy : List ℕ → List ℕ → ℕ → ℕ → Field
-fieldBy t s at n = cond (within s at n) (fieldFromBy t 0 0 (take n (drop at s))) Field.Outside
 
 -- what writing the number v into the n bytes from a place answers, and the bytes afterwards
 abbrev pub putAnswer : ℕ → ℕ → List ℕ → ℕ → Put

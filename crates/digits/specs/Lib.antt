@@ -1,5 +1,6 @@
--- Packed digits, and a field of them read and written: definitions that the contracts cite.
+-- Packed digits, their table, and a field of them read and written: definitions that the contracts cite.
 pub mod Tests
 pub mod Packed
 pub mod Table
 pub mod Fields
+pub mod Lent

@@ -2,8 +2,6 @@
 use Prim.Native.Nat.{ℕ, zero, suc}
 use mathlib.Core.Bool.{cond}
 use mathlib.Core.List.{List, [], _∷_}
-use lib.Dec.{ltb}
-use lib.ListN.{getD}
 use Rattle.digits.specs.Packed.{goodByte, two}
 
 -- the mark of a byte with a bad half, which no two digits give
@@ -22,7 +20,3 @@ entriesFrom b (suc n) = entryOf b ∷ entriesFrom (suc b) n
 -- the entries of all bytes, in their order
 abbrev pub digitTable : List ℕ
 digitTable = entriesFrom 0 256
-
--- what a lent table t, which may be another one, has for a byte; a number that is no byte has the mark
-abbrev pub entryIn : List ℕ → ℕ → ℕ
-entryIn t b = cond (ltb b 256) (getD t b 0) mark

@@ -4,7 +4,8 @@ ghost use Prim.Native.Nat.{_+_, _*_, _/_, _%_, _<_, _≤_, _^_};
 ghost use lib.ListN.{length};
 ghost use lib.Seq.{sets};
 ghost use Rattle.digits.specs.Packed.{byteOf, packed};
-ghost use Rattle.digits.specs.Fields.{fieldAt, fieldBy, putAnswer, putAt};
+ghost use Rattle.digits.specs.Fields.{fieldAt, putAnswer, putAt};
+ghost use Rattle.digits.specs.Lent.{fieldBy};
 use crate::table::table;
 
 // The most bytes whose number always fits a u64.

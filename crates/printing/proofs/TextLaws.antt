@@ -6,7 +6,7 @@ use mathlib.Core.List.{List, [], _∷_, _++_, append-assoc, append-nil}
 use native.Mathlib.Omega.{arith}
 use native.Mathlib.Numerals.{add-one}
 use lib.ListN.{drop-of-length-le, length-drop, length, set, take, drop, getD, length-set, length-append}
-use lib.Seq.{sets, length-sets, take-suc, take-all, set-out, drop-cons, drop-set-lt, getD-set-same}
+use lib.Seq.{sets, length-sets, length-take-le, take-suc, take-all, set-out, drop-cons, drop-set-lt, getD-set-same}
 use lib.Dec.{leb}
 use borrow.Author.Tests.{lt-leb, leb-true, leb-false}
 use Rattle.printing.specs.Text.{behind, Puts, lastDigit, decimalBy}
@@ -70,6 +70,12 @@ puts-then text more at r q out mid after p s =
           ∙ ap (λ (l : List ℕ). sets l (at + length text) more) (p .1)
           ∙ sym (sets-append text more at out),
     )
+
+-- what is put lies within the buffer
+pub puts-within : (text : List ℕ) (at r : ℕ) (out after : List ℕ) → at ≤ length out → Puts text at out r after → r ≡ length (take r after)
+puts-within text at r out after h p =
+    let n : length after ≡ length out = ap length (p .1) ∙ length-sets out at text in
+    sym (length-take-le r after (omega (arith, n, p .0)))
 
 -- ---- one byte, and the bytes of a text one after the other
 pub puts-byte : (b at : ℕ) (out : List ℕ) → at < length out → Puts (b ∷ []) at out (at + 1) (set out at b)

@@ -6,7 +6,7 @@ use mathlib.Core.Path.{_≡_, refl, ap, sym, subst, _∙_}
 use native.Mathlib.Omega.{arith}
 use native.Mathlib.Numerals.{add-one}
 use lib.ListN.{length, take, getD}
-use lib.Seq.{take-suc, take-all, length-take-le, length-sets}
+use lib.Seq.{take-suc, take-all, length-take-le}
 use Rattle.printing.specs.Text.{Puts}
 use Rattle.printing.proofs.TextLaws.{puts-then, puts-none}
 use Rattle.program_table.specs.Printed.{space, spaceIf, aligned, parting, entriesText, tableText}
@@ -49,9 +49,3 @@ all-put xs k at r out after h p = subst (λ (ys : List ℕ). Puts (entriesText 0
 -- the text is as long as the buffer that it is put into, so that nothing of it is left out
 pub text-whole : length tableText ≡ 1024
 text-whole = refl
-
--- what is put lies within the buffer
-pub put-within : (text : List ℕ) (at r : ℕ) (out after : List ℕ) → at ≤ length out → Puts text at out r after → r ≡ length (take r after)
-put-within text at r out after h p =
-    let n : length after ≡ length out = ap length (p .1) ∙ length-sets out at text in
-    sym (length-take-le r after (omega (arith, n, p .0)))

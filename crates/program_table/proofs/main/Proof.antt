@@ -3,7 +3,7 @@ use Prim.Native.Nat.{zero-le}
 use borrow.Author.Needs.{needs}
 use lib.ListN.{replicate}
 use Rattle.program_table.specs.Printed.{tableText}
-use Rattle.program_table.proofs.PrintedLaws.{put-within}
+use Rattle.printing.proofs.TextLaws.{puts-within}
 use Rattle.program_table.proofs.main.Statement.{statement}
 use Rattle.program_table.proofs.main.Tie as tie
 
@@ -19,7 +19,7 @@ array-share-prefix-out c = search needs
 slice-aggregate-write-all : tie.Need-slice-aggregate-write-all
 slice-aggregate-write-all c =
     let p = c .before .before .put-table in
-    put-within tableText 0 (p .result) (replicate 1024 0) (p .last .0) zero-le (p .ensures)
+    puts-within tableText 0 (p .result) (replicate 1024 0) (p .last .0) zero-le (p .ensures)
 
 write-all-requires : tie.Need-write-all-requires
 write-all-requires c κs = search needs

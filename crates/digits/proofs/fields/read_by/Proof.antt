@@ -4,7 +4,7 @@ use mathlib.Core.Path.{_≡_}
 use borrow.Author.Needs.{needs}
 use native.Mathlib.Omega.{arith}
 use lib.ListN.{getD}
-use Rattle.digits.specs.Fields.{fieldFromBy, fieldBy}
+use Rattle.digits.specs.Lent.{fieldFromBy, fieldBy}
 use Rattle.digits.proofs.Powers.{pow-next, pow-eight}
 use Rattle.digits.proofs.ReadSteps.{rest, read-wide, read-past, read-starts, read-high, read-low, read-turn, read-ends}
 use Rattle.digits.proofs.fields.read_by.Statement.{statement}
