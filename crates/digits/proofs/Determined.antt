@@ -1,4 +1,4 @@
--- The contracts of the table, and of reading and writing a field, leave no choice: any two results that they allow are equal.
+-- The contracts of the table, of reading and writing a field and of its bad halves leave no choice: any two results that they allow are equal.
 use mathlib.Core.Path.{_≡_, sym, _∙_}
 use contract.Lifetimes
 use borrow.Fn.World
@@ -20,6 +20,9 @@ use Rattle.digits.proofs.fields.read.Reads as rreads
 use Rattle.digits.proofs.fields.write
 use Rattle.digits.proofs.fields.write.Kinds as wown
 use Rattle.digits.proofs.fields.write.Reads as wreads
+use Rattle.digits.proofs.halves.bad_half as bad-half
+use Rattle.digits.proofs.halves.bad_half.Kinds as hown
+use Rattle.digits.proofs.halves.bad_half.Reads as hreads
 
 -- the table
 pub determined-table : (κs : Lifetimes.Lfts 0) (a : World.ArgsD table.signature κs) (r₁ r₂ : World.ResD table.signature κs)
@@ -50,3 +53,9 @@ pub determined-write : (κs : Lifetimes.Lfts 1) (a : World.ArgsD write.signature
     (s₁ s₂ : Clauses.AtExit (kinds.endedOf 1 wown.ps wown.r) κs) → wreads.Post κs a r₁ s₁ → wreads.Post κs a r₂ s₂
     → (r₁ ≡ r₂) × (now (s₁ .1 .1 .0) ≡ now (s₂ .1 .1 .0))
 determined-write κs a r₁ r₂ s₁ s₂ p q = (p .0 ∙ sym (q .0), p .1 ∙ sym (q .1))
+
+-- what `bad_half` answers
+pub determined-bad-half : (κs : Lifetimes.Lfts 1) (a : World.ArgsD bad-half.signature κs) (r₁ r₂ : World.ResD bad-half.signature κs)
+    (s₁ s₂ : Clauses.AtExit (kinds.endedOf 1 hown.ps hown.r) κs) → hreads.Post κs a r₁ s₁ → hreads.Post κs a r₂ s₂
+    → r₁ ≡ r₂
+determined-bad-half κs a r₁ r₂ s₁ s₂ p q = p ∙ sym q

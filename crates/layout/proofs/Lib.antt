@@ -3,6 +3,8 @@ pub mod ListLaws
 pub mod CellLaws
 pub mod AppendLaws
 pub mod CheckLaws
+pub mod PlaceLaws
+pub mod PlaceSteps
 pub mod WholeLaws
 pub mod RawLaws
 pub mod PutLaws

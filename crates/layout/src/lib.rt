@@ -1,6 +1,8 @@
-// Bytes put into a lent buffer as they are.
+// Bytes put into a lent buffer as they are, and the first bad digit of bytes by their layout.
 ghost use mathlib.Core.Path.{_≡_};
 ghost use Rattle.layout.specs.Bytes.{bytesOver};
+
+pub mod places;
 
 // Puts bytes into the buffer from a place on; where they do not fit, the buffer stays as it is.
 pub fn put_bytes(s: &[u8], buf: &mut [u8], at: usize)
