@@ -1,6 +1,5 @@
 // Reads standard input as a closed line and prints the message of each accepted frame, a JSON object a line; bids and asks are null
 // where a quote does not show its levels. Input of any length, in constant memory.
-mod hex;
 mod objects;
 
 use objects::put_framed;

@@ -1,5 +1,4 @@
 // The object of each message.
-use crate::hex::put_hex;
 use amounts::Price;
 use answers::Answer;
 use answers::Frame;
@@ -25,6 +24,7 @@ use stock_reading::reading::NINETEEN;
 use stock_reading::reading::SIX;
 use stock_reading::reading::TWELVE;
 use stock_texts::counts::put_count;
+use stock_texts::hex::put_hex;
 use stock_texts::quotes::put_marks;
 use stock_texts::quotes::put_sides;
 use stock_texts::quotes::put_trade;

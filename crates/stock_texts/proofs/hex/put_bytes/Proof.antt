@@ -3,8 +3,8 @@ use Prim.Native.Nat.{_-_}
 use mathlib.Core.Path.{_≡_}
 use lib.ListN.{length}
 use borrow.Author.Needs.{needs}
-use Rattle.program_messages.proofs.hex.put_bytes.Statement.{statement}
-use Rattle.program_messages.proofs.hex.put_bytes.Tie as tie
+use Rattle.stock_texts.proofs.hex.put_bytes.Statement.{statement}
+use Rattle.stock_texts.proofs.hex.put_bytes.Tie as tie
 
 abbrev Inv-loop : tie.InvT-loop
 Inv-loop out₀ at text to₀ i₀ out to i = length out ≡ length out₀

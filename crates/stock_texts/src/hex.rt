@@ -28,7 +28,7 @@ fn put_bytes(out: &mut [u8], at: usize, text: &[u8]) -> usize {
 }
 
 // All of them as a string. Answers the place behind it.
-pub(crate) fn put_hex(out: &mut [u8], at: usize, text: &[u8]) -> usize {
+pub fn put_hex(out: &mut [u8], at: usize, text: &[u8]) -> usize {
     let at = put(out, at, b'"');
     let at = put_bytes(out, at, text);
     put(out, at, b'"')
