@@ -1,2 +1,3 @@
 -- The laws that the proofs cite, and the theorems that belong to no one function.
+pub mod BeforeLaws
 pub mod Determined

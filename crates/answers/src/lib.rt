@@ -1,22 +1,24 @@
 // What reading and writing answer.
 ghost use mathlib.Core.Path.{_≡_};
-ghost use Rattle.answers.specs.Answers.{answerNumber, answerLength};
+ghost use Rattle.answers.specs.Answers.{answerNumber, answerLength, answerPlace};
+use digits::halves::Place;
 
-// An accepted frame: its format, its number and its whole length in bytes.
+// An accepted frame: its whole length in bytes, its format and its number. In this order they lie where a refusal has its length and
+// its place, so that an answer is handed on in whole registers.
 pub struct Frame {
+    pub length: usize,
     pub format: u8,
     pub seq: u32,
-    pub length: usize,
 }
 
 // What a reading says.
 pub enum Answer {
     // 0
     Accepted(Frame),
-    // 1 to 5, the number alone: no whole frame stands here
-    NoFrame(u8),
-    // 6 to 13, with the length: a whole frame that breaks a rule
-    Refused(u8, usize),
+    // 1 to 5: no whole frame stands here; beside 3 the place of the first bad digit, where one is the cause
+    NoFrame(u8, Place),
+    // 6 to 13, with the length: a whole frame that breaks a rule; beside 6 and 11 the place of the first bad digit
+    Refused(u8, usize, Place),
 }
 
 impl Answer {
@@ -27,8 +29,8 @@ impl Answer {
         let answer = self;
         match answer {
             Answer::Accepted(_) => 0,
-            Answer::NoFrame(n) => n,
-            Answer::Refused(n, _) => n,
+            Answer::NoFrame(n, _) => n,
+            Answer::Refused(n, _, _) => n,
         }
     }
 
@@ -39,8 +41,20 @@ impl Answer {
         let answer = self;
         match answer {
             Answer::Accepted(f) => f.length,
-            Answer::NoFrame(_) => 0,
-            Answer::Refused(_, l) => l,
+            Answer::NoFrame(_, _) => 0,
+            Answer::Refused(_, l, _) => l,
+        }
+    }
+
+    // Where the first bad digit is, in halves from the frame's first byte, if it speaks of one.
+    pub fn place(self) -> Place
+        ensures { λ r. ⌜ r ≡ answerPlace self ⌝ }
+    {
+        let answer = self;
+        match answer {
+            Answer::Accepted(_) => Place::None,
+            Answer::NoFrame(_, p) => p,
+            Answer::Refused(_, _, p) => p,
         }
     }
 }

@@ -7,7 +7,7 @@ use native.Mathlib.Omega.{arith}
 use lib.ListN.{length, drop}
 use lib.Dec.{eqb, leb}
 use borrow.Author.Tests.{eqb-false, leb-false, ne-eqb}
-use Rattle.answers.specs.Answers.{answerNumber, answerLength}
+use Rattle.answers.specs.Answers.{answerNumber, answerLength, answerPlace}
 use Rattle.answers.specs.declared.Answer.{Answer}
 use Rattle.answers.specs.declared.Answer.the-variants.{Accepted}
 use Rattle.answers.specs.declared.Frame.{Frame}
@@ -18,9 +18,9 @@ use Rattle.walk.proofs.WalkLaws.{takes-some}
 use Rattle.stock_lines.specs.Lines.{answers, longest, moveAt}
 use Rattle.stock_lines.specs.declared.moves.Step.{Step}
 use Rattle.stock_lines.proofs.LineLaws.{sound-answers}
-use Rattle.c_outcomes.specs.Outcomes.{answerPart, formatPart, lengthPart, seqPart, pastOutcome}
+use Rattle.c_outcomes.specs.Outcomes.{answerPart, formatPart, lengthPart, seqPart, placeFrom, pastOutcome}
 use Rattle.c_walking.specs.Walking.{moveOutcome, tallyFrom, tallyNumbers}
-use Rattle.c_laws.proofs.OutcomeTheorems.{answerIn, number-in, frame-in, answer-short, past-back}
+use Rattle.c_laws.proofs.OutcomeTheorems.{answerIn, number-in, frame-in, place-in, answer-short, past-back}
 
 -- the number of the answer where a walk moves, and the bytes that it goes past; 2 and none where it stops
 abbrev pub stepNumber : Step → ℕ
@@ -100,6 +100,13 @@ module _ (closed : Bool) (at : ℕ) (line : List ℕ) where
       let moves : stops answers closed from ≡ false = ap (λ (a : Answer). eqb (answerNumber a) 2 && (not closed || eqb (length from) 0)) e in
       let same : moveOutcome (moveAt closed at line) ≡ pastOutcome (answerOf from) (past from) = ap (λ (s : Bool). moveOutcome (step s)) moves in
       frame-in (moveOutcome (moveAt closed at line)) f (ap answerIn same ∙ past-told from .0 ∙ e)
+
+  -- past a refusal it has the place of the bad digit that it tells, or none
+  pub place-moved : (answerNumber (answerOf from) ≡ 0 → ⊥) → stops answers closed from ≡ false
+      → placeFrom (seqPart (moveOutcome (moveAt closed at line))) ≡ answerPlace (answerOf from)
+  place-moved h moves =
+      let same : moveOutcome (moveAt closed at line) ≡ pastOutcome (answerOf from) (past from) = ap (λ (s : Bool). moveOutcome (step s)) moves in
+      place-in (moveOutcome (moveAt closed at line)) (answerOf from) (ap answerIn same ∙ past-told from .0) h
 
 -- ---- tallies
 -- a tally's numbers tell it

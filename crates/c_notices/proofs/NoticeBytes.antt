@@ -49,8 +49,8 @@ module _ (line : List ℕ) (at : ℕ) (r : NoticeReading) (e : r ≡ noticeAt (d
     where
       go : (a : Answer) → answerOf t ≡ a → isOf 5 a ≡ true → Reads fiveCodec t (noticeAt t .notice)
       go (Accepted f) q i = trips-five .means t f q (eqb-true (f .format) 5 i)
-      go (NoFrame n) q i = absurd (no-false i)
-      go (Refused n l) q i = absurd (no-false i)
+      go (NoFrame m p) q i = absurd (no-false i)
+      go (Refused m l p) q i = absurd (no-false i)
 
   -- its body is the category and the text, which has room
   text-long : (1 + n ≡ length b) × (n ≤ room)

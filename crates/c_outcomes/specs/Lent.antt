@@ -8,8 +8,8 @@ use Rattle.answers.specs.declared.Answer.the-variants.{Accepted, NoFrame, Refus
 -- a frame of this format is accepted
 abbrev pub isOf : ℕ → Answer → Bool
 isOf format (Accepted f) = eqb (f .format) format
-isOf format (NoFrame n) = false
-isOf format (Refused n l) = false
+isOf format (NoFrame n p) = false
+isOf format (Refused n l p) = false
 
 -- what the message says if a frame of its format is accepted, else as it came
 abbrev pub lent : {A : Type 0} → ℕ → Answer → A → A → A

@@ -2,6 +2,7 @@
 use Prim.Native.Nat.{ℕ}
 use mathlib.Core.List.{List, [], _∷_}
 use lib.ListN.{getD}
+use Rattle.digits.specs.declared.halves.Place.the-variants.{None}
 use Rattle.answers.specs.declared.Answer.the-variants.{NoFrame}
 use Rattle.stock_lines.specs.declared.moves.Step.{Step}
 use Rattle.c_outcomes.specs.Outcomes.{readOutcome, pastOutcome}
@@ -10,7 +11,7 @@ use Rattle.walk.specs.declared.tally.Tally.{Tally}
 -- a move's outcome; where the walk stops it is 2, and no bytes
 abbrev pub moveOutcome : Step → ℕ
 moveOutcome (Step.Moved row) = pastOutcome (row .answer) (row .bytes)
-moveOutcome Step.Stopped = readOutcome (NoFrame 2)
+moveOutcome Step.Stopped = readOutcome (NoFrame 2 None)
 
 -- the tally of accepted, refused, skipped and waiting bytes, and its numbers
 abbrev pub tallyFrom : List ℕ → Tally

@@ -10,6 +10,7 @@ ghost use Rattle.c_walking.specs.Walking.{moveOutcome, tallyFrom, tallyN
 use answers::Answer;
 use c_outcomes::of_answer;
 use c_outcomes::of_move;
+use digits::halves::Place;
 use stock_lines::figures::walked;
 use stock_lines::moves::Step;
 use stock_lines::moves::move_at;
@@ -33,7 +34,7 @@ fn move_outcome(step: Step) -> u64
             let answer = row.answer;
             of_move(answer, row.bytes)
         }
-        Step::Stopped => of_answer(Answer::NoFrame(2)),
+        Step::Stopped => of_answer(Answer::NoFrame(2, Place::None)),
     }
 }
 

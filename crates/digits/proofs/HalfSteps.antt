@@ -9,7 +9,7 @@ use lib.Dec.{eqb, ltb}
 use lib.ListN.{length, take, drop, getD, drop-of-length-le}
 use lib.Seq.{getD-take, getD-drop}
 use Rattle.digits.specs.Packed.{width}
-use Rattle.digits.specs.Halves.{badFrom, badLead, badField, badAt}
+use Rattle.digits.specs.Halves.{badFrom, badLead, badField, badIn}
 use Rattle.digits.specs.declared.halves.Place.{Place}
 use Rattle.digits.specs.declared.halves.Place.the-variants.{None, Half}
 use Rattle.digits.proofs.Places.{take-first}
@@ -47,8 +47,8 @@ module _ (s : List ℕ) (at n k : ℕ) (inside : at + k < length s) (more : k < 
       ap (λ (m : ℕ). badFrom (2 * (at + k)) (take m (drop (at + k) s))) e
       ∙ ap (badFrom (2 * (at + k))) (take-first (n - (k + 1)) (at + k) s inside ∙ ap (λ (m : ℕ). byte ∷ take (n - (k + 1)) (drop m s)) f)
 
-  pub look-high : 9 < byte / 16 → Half (2 * (at + k)) ≡ badRest s at n k
-  look-high h = sym (begun ∙ rw (lt-ltb 9 (byte / 16)))
+  pub look-high : 9 < byte / 16 → Half (2 * (at + k) + 0) ≡ badRest s at n k
+  look-high h = let e : 2 * (at + k) + 0 ≡ 2 * (at + k) = omega arith in ap Half e ∙ sym (begun ∙ rw (lt-ltb 9 (byte / 16)))
 
   pub look-low : byte / 16 ≤ 9 → 9 < byte % 16 → Half (2 * (at + k) + 1) ≡ badRest s at n k
   look-low g h = sym (begun ∙ rw (le-ltb 9 (byte / 16), lt-ltb 9 (byte % 16)))
@@ -60,7 +60,7 @@ module _ (s : List ℕ) (at n k : ℕ) (inside : at + k < length s) (more : k < 
 
 -- ---- a field at a place
 module _ (s : List ℕ) (at n : ℕ) where
-  pub field-past : length s ≤ at → None ≡ badAt s at n
+  pub field-past : length s ≤ at → None ≡ badIn s at n
   field-past h =
       sym (ap (λ (l : List ℕ). badField n (2 * at) (take (width n) l)) (drop-of-length-le s h) ∙ ap (badField n (2 * at)) (take-none (width n))
       ∙ ap (λ (t : Bool). cond t (Half (2 * at)) None) (and-false (eqb (n % 2) 1)))
@@ -77,10 +77,12 @@ module _ (s : List ℕ) (at n : ℕ) where
       go false e = refl
 
   module _ (bad : Bool) (is : bad ≡ (eqb (n % 2) 1 && ltb 0 (getD s at 0 / 16))) where
-    pub field-lead : bad ≡ true → Half (2 * at) ≡ badAt s at n
-    field-lead h = sym (ap (λ (t : Bool). cond t (Half (2 * at)) (badFrom (2 * at) (take (width n) (drop at s)))) (lead-at ∙ sym is ∙ h))
+    pub field-lead : bad ≡ true → Half (2 * at + 0) ≡ badIn s at n
+    field-lead h =
+        let e : 2 * at + 0 ≡ 2 * at = omega arith in
+        ap Half e ∙ sym (ap (λ (t : Bool). cond t (Half (2 * at)) (badFrom (2 * at) (take (width n) (drop at s)))) (lead-at ∙ sym is ∙ h))
 
-    pub field-from : bad ≡ false → (k : ℕ) → k ≡ n / 2 + n % 2 → badFrom (2 * at) (take k (drop at s)) ≡ badAt s at n
+    pub field-from : bad ≡ false → (k : ℕ) → k ≡ n / 2 + n % 2 → badFrom (2 * at) (take k (drop at s)) ≡ badIn s at n
     field-from h k e =
         let w : k ≡ width n = omega (arith, e) in
         ap (λ (m : ℕ). badFrom (2 * at) (take m (drop at s))) w

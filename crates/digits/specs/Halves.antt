@@ -23,8 +23,15 @@ abbrev pub badField : ℕ → ℕ → List ℕ → Place
 badField n p bs = cond (badLead n bs) (Half p) (badFrom p bs)
 
 -- the field 9(n) whose bytes begin at a place
+abbrev pub badIn : List ℕ → ℕ → ℕ → Place
+badIn s at n = badField n (2 * at) (take (width n) (drop at s))
+
+-- so many bytes are looked at, more than any frame has
+abbrev pub looked : List ℕ → List ℕ
+looked s = take 65535 s
+
 abbrev pub badAt : List ℕ → ℕ → ℕ → Place
-badAt s at n = badField n (2 * at) (take (width n) (drop at s))
+badAt s at n = badIn (looked s) at n
 
 -- no half is bad
 abbrev pub isNone : Place → Bool

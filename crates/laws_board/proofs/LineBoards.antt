@@ -72,8 +72,8 @@ module _ (P : Quote → Type 0) where
 
       go : (a : Answer) → answerOf t ≡ a → Of (messageIn a t)
       go (Accepted f) e = quotes f e (eqb (f .format) 6) refl
-      go (NoFrame n) e = tt
-      go (Refused n l) e = tt
+      go (NoFrame n p) e = tt
+      go (Refused n l p) e = tt
 
   module _ (line : List ℕ) (read : (at : ℕ) (m : Quote) → Reads sixCodec (drop at line) m → P m) where
     all-in : (vs : List (Move Saying)) (ms : List Quote) → Each sayings longest sound-sayings (λ m. m .said ≡ sayings .says (drop (m .at) line)) vs → AllOf P ms → AllOf P (quotesIn vs ms)

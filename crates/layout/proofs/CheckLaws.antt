@@ -78,3 +78,17 @@ pub all-hold : (checks : List Check) → numbered checks ≡ true → firstFail 
 all-hold [] h p = tt
 all-hold (must zero test ∷ checks) h p = absurd (no-false h)
 all-hold (must (suc n) test ∷ checks) h p = (check-holds n test checks p, all-hold checks h (checks-after n test checks p))
+
+-- an answer that one check alone gives: those before it hold, and it does not
+pub only-fails : (m : ℕ) (before : List Check) (t : Bool) (after : List Check) → silent m before ≡ true → silent m after ≡ true → (m ≡ 0 → ⊥)
+    → firstFail (before ++ (must m t ∷ after)) ≡ m → allHold before × (t ≡ false)
+only-fails m [] true after s u z p = absurd (z (silent-answers m after u p))
+only-fails m [] false after s u z p = (tt, refl)
+only-fails m (must n test ∷ before) t after s u z p = go (eqb m n) refl s test p (λ x. only-fails m before t after x u z)
+  where
+    go : (b : Bool) → eqb m n ≡ b → cond b false (silent m before) ≡ true → (v : Bool) → cond v (firstFail (before ++ (must m t ∷ after))) n ≡ m
+        → (silent m before ≡ true → firstFail (before ++ (must m t ∷ after)) ≡ m → allHold before × (t ≡ false))
+        → ((v ≡ true) × allHold before) × (t ≡ false)
+    go true e q v f ih = absurd (no-false q)
+    go false e q true f ih = let r = ih q f in ((refl, r .0), r .1)
+    go false e q false f ih = absurd (eqb-false m n e (sym f))

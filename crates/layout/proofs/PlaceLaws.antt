@@ -60,7 +60,7 @@ length-take-most zero bs = omega arith
 length-take-most (suc k) [] = omega arith
 length-take-most (suc k) (b ∷ bs) = omega (arith, length-take-most k bs)
 
-length-take-less : (k : ℕ) (bs : List ℕ) → length (take k bs) ≤ length bs
+pub length-take-less : (k : ℕ) (bs : List ℕ) → length (take k bs) ≤ length bs
 length-take-less zero bs = omega arith
 length-take-less (suc k) [] = omega arith
 length-take-less (suc k) (b ∷ bs) = omega (arith, length-take-less k bs)

@@ -6,7 +6,7 @@ use native.Mathlib.Numerals.{add-one}
 use native.Mathlib.Omega.{arith}
 use lib.ListN.{length, getD, take, drop, drop-of-length-le}
 use lib.Seq.{drop-cons, drop-drop}
-use Rattle.digits.specs.Halves.{orElse, badAt}
+use Rattle.digits.specs.Halves.{orElse, badIn}
 use Rattle.digits.specs.declared.halves.Place.{Place}
 use Rattle.digits.specs.declared.halves.Place.the-variants.{None, Half}
 use Rattle.layout.specs.Cells.{Cell, cellSize}
@@ -19,7 +19,7 @@ size-some zero h = absurd (h refl)
 size-some (suc n) h = omega arith
 
 -- a cell of the bytes at a place, as the digit layer looks at it
-cell-at : (n at : ℕ) (s : List ℕ) → cellBad (cellOf n) (2 * at) (take (cellSize (cellOf n)) (drop at s)) ≡ badAt s at n
+cell-at : (n at : ℕ) (s : List ℕ) → cellBad (cellOf n) (2 * at) (take (cellSize (cellOf n)) (drop at s)) ≡ badIn s at n
 cell-at zero at s = refl
 cell-at (suc n) at s = refl
 
@@ -33,7 +33,7 @@ left-ends cells s at i h = sym (ap (λ (ns : List ℕ). firstBad (cellsOf ns) (2
 pub left-past : (cells s : List ℕ) (at i : ℕ) → length s ≤ at → None ≡ leftBad cells s at i
 left-past cells s at i h = sym (ap (firstBad (cellsOf (drop i cells)) (2 * at)) (drop-of-length-le s h) ∙ firstBad-past (cellsOf (drop i cells)) (2 * at))
 
-module _ (cells s : List ℕ) (at i : ℕ) (more : i < length cells) (x : Place) (is : x ≡ badAt s at (getD cells i 0)) where
+module _ (cells s : List ℕ) (at i : ℕ) (more : i < length cells) (x : Place) (is : x ≡ badIn s at (getD cells i 0)) where
   begun : leftBad cells s at i ≡ orElse x (leftBad cells s (at + cellSize (cellOf (getD cells i 0))) (i + 1))
   begun =
       let n = getD cells i 0 in

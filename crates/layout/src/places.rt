@@ -1,6 +1,7 @@
 // The first bad digit of bytes by their layout.
 ghost use mathlib.Core.Path.{_≡_};
 ghost use Prim.Native.Nat.{_≤_};
+ghost use Rattle.digits.specs.Halves.{looked};
 ghost use Rattle.layout.specs.Cells.{cellSize};
 ghost use Rattle.layout.specs.Places.{firstBad, cellOf, cellsOf};
 use digits::halves::Place;
@@ -17,9 +18,9 @@ fn cell_size(n: u8) -> usize
 }
 
 // The first bad half of bytes, counted from their first one, by their cells: 0 is a byte handed on as it is, n a packed field
-// 9(n). Cells that run past the end of the bytes have what bytes there are.
+// 9(n). Cells that run past the end of the bytes have what bytes there are; so many bytes are looked at as `bad_half` looks at.
 pub fn first_bad(cells: &[u8], s: &[u8]) -> Place
-    ensures { λ r. ⌜ r ≡ firstBad (cellsOf (now (cells .entry))) 0 (now (s .entry)) ⌝ }
+    ensures { λ r. ⌜ r ≡ firstBad (cellsOf (now (cells .entry))) 0 (looked (now (s .entry))) ⌝ }
 {
     let mut at = 0;
     let mut i = 0;

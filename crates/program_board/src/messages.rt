@@ -30,8 +30,8 @@ fn with_body(refused: u64, heads: &mut [u64], cells: &mut [u32], body: &[u8], se
             let q = r.quote;
             with_answer(refused, take(heads, cells, q))
         }
-        Answer::NoFrame(_) => refused,
-        Answer::Refused(_, _) => refused,
+        Answer::NoFrame(_, _) => refused,
+        Answer::Refused(_, _, _) => refused,
     }
 }
 

@@ -105,8 +105,8 @@ fn with_body(d: Day, ends: &mut [u32], body: &[u8], seq: u32) -> Day {
     let answer = r.answer;
     match answer {
         Answer::Accepted(f) => with_number(d, ends, f.seq),
-        Answer::NoFrame(_) => d,
-        Answer::Refused(_, _) => d,
+        Answer::NoFrame(_, _) => d,
+        Answer::Refused(_, _, _) => d,
     }
 }
 

@@ -38,8 +38,8 @@ total = 116 ∷ 111 ∷ 116 ∷ 97 ∷ 108 ∷ 44 ∷ []
 -- format and number of an accepted frame; dashes for anything else
 abbrev pub frameText : Answer → List ℕ
 frameText (Accepted f) = field (f .format) comma ++ decimal (f .seq)
-frameText (NoFrame n) = dashes
-frameText (Refused n l) = dashes
+frameText (NoFrame n p) = dashes
+frameText (Refused n l p) = dashes
 
 -- place, answer, bytes, format, number
 abbrev pub rowText : Row → List ℕ

@@ -24,8 +24,8 @@ fn put_frame(out: &mut [u8], at: usize, answer: Answer) -> usize
             let to = put_field(out, at, f.format as u64, b',');
             put_number(out, to, f.seq as u64)
         }
-        Answer::NoFrame(_) => put_all(out, at, b"-,-"),
-        Answer::Refused(_, _) => put_all(out, at, b"-,-"),
+        Answer::NoFrame(_, _) => put_all(out, at, b"-,-"),
+        Answer::Refused(_, _, _) => put_all(out, at, b"-,-"),
     }
 }
 

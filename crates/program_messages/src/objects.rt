@@ -195,8 +195,8 @@ fn put_notice_read(out: &mut [u8], at: usize, place: u64, r: NoticeReading) -> u
             let at = put_notice(out, at, m);
             put_all(out, at, b"}\n")
         }
-        Answer::NoFrame(_) => at,
-        Answer::Refused(_, _) => at,
+        Answer::NoFrame(_, _) => at,
+        Answer::Refused(_, _, _) => at,
     }
 }
 
@@ -209,8 +209,8 @@ fn put_quote_read(out: &mut [u8], at: usize, place: u64, r: QuoteReading) -> usi
             let at = put_quote(out, at, q);
             put_all(out, at, b"}\n")
         }
-        Answer::NoFrame(_) => at,
-        Answer::Refused(_, _) => at,
+        Answer::NoFrame(_, _) => at,
+        Answer::Refused(_, _, _) => at,
     }
 }
 
@@ -223,8 +223,8 @@ fn put_prices_read(out: &mut [u8], at: usize, place: u64, r: PricesReading) -> u
             let at = put_prices(out, at, p);
             put_all(out, at, b"}\n")
         }
-        Answer::NoFrame(_) => at,
-        Answer::Refused(_, _) => at,
+        Answer::NoFrame(_, _) => at,
+        Answer::Refused(_, _, _) => at,
     }
 }
 
@@ -237,8 +237,8 @@ fn put_halt_read(out: &mut [u8], at: usize, place: u64, r: HaltReading) -> usize
             let at = put_halt(out, at, h);
             put_all(out, at, b"}\n")
         }
-        Answer::NoFrame(_) => at,
-        Answer::Refused(_, _) => at,
+        Answer::NoFrame(_, _) => at,
+        Answer::Refused(_, _, _) => at,
     }
 }
 

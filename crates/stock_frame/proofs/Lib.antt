@@ -7,6 +7,7 @@ pub mod CloseLaws
 pub mod LengthSteps
 pub mod OutlineSteps
 pub mod PartLaws
+pub mod PlaceSteps
 pub mod BodyCheckLaws
 pub mod MessageLaws
 pub mod FigureLaws

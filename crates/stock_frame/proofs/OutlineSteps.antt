@@ -15,11 +15,15 @@ use Rattle.digits.proofs.Bools.{and-left, and-both}
 use Rattle.digits.proofs.TestLaws.{holds}
 use Rattle.digits.proofs.PackedLaws.{two-lt}
 use Rattle.layout.specs.Cells.{goodCells, decode}
+use Rattle.layout.specs.Places.{firstBad}
 use Rattle.layout.specs.Checks.{Check, must, firstFail}
+use Rattle.digits.specs.declared.halves.Place.{Place}
+use Rattle.digits.specs.declared.halves.Place.the-variants.{None}
 use Rattle.answers.specs.Answers.{named}
 use Rattle.words.specs.Xor.{xorOf}
-use Rattle.stock_frame.specs.Outline.{lengthBytes, lengthOf, own, inner, kindCells, checkByte, ended, lengthRight, outlineChecks, headOf, outlineOf}
+use Rattle.stock_frame.specs.Outline.{lengthBytes, lengthCells, lengthOf, own, inner, kindCells, checkByte, ended, lengthRight, outlineChecks, headOf, outlinePlace, outlineOf}
 use Rattle.answers.specs.declared.Answer.the-variants.{NoFrame, Refused}
+use Rattle.stock_frame.specs.declared.head.Outline.{Outline}
 use Rattle.stock_frame.specs.declared.head.Outline.the-variants.{Whole, Not}
 use Rattle.stock_frame.proofs.OutlineLaws.{length-bytes-taken, right-length}
 use Rattle.layout.proofs.WholeLaws.{good-wholes}
@@ -28,42 +32,42 @@ use Rattle.stock_frame.proofs.LengthSteps.{lengthIn}
 -- ---- the first check that fails answers
 module _ (t : List ℕ) where
   pub answered : (k : ℕ) → firstFail (outlineChecks t) ≡ k
-      → cond (eqb k 0) (Whole (headOf (own t))) (Not (named k (record { format = 0; seq = 0; length = lengthOf t }))) ≡ outlineOf t
+      → cond (eqb k 0) (Whole (headOf (own t))) (Not (named k (record { format = 0; seq = 0; length = lengthOf t }) (outlinePlace k t))) ≡ outlineOf t
   unfolding outlineOf
-  answered k e = ap (λ (n : ℕ). cond (eqb n 0) (Whole (headOf (own t))) (Not (named n (record { format = 0; seq = 0; length = lengthOf t })))) (sym e)
+  answered k e = ap (λ (n : ℕ). cond (eqb n 0) (Whole (headOf (own t))) (Not (named n (record { format = 0; seq = 0; length = lengthOf t }) (outlinePlace n t)))) (sym e)
 
-  pub check-none : length t < 1 → Not (NoFrame 2) ≡ outlineOf t
+  pub check-none : length t < 1 → Not (NoFrame 2 None) ≡ outlineOf t
   check-none h = answered 2 (rw (lt-leb 1 (length t) h))
 
   module _ (some : 1 ≤ length t) where
-    pub check-first : (getD t 0 0 ≡ 27 → ⊥) → Not (NoFrame 1) ≡ outlineOf t
+    pub check-first : (getD t 0 0 ≡ 27 → ⊥) → Not (NoFrame 1 None) ≡ outlineOf t
     check-first h = answered 1 (rw (le-leb 1 (length t) some, ne-eqb (getD t 0 0) 27 h))
 
     module _ (starts : getD t 0 0 ≡ 27) where
-      pub check-three : length t < 3 → Not (NoFrame 2) ≡ outlineOf t
+      pub check-three : length t < 3 → Not (NoFrame 2 None) ≡ outlineOf t
       check-three h = answered 2 (rw (le-leb 1 (length t) some, eq-eqb (getD t 0 0) 27 starts, lt-leb 3 (length t) h))
 
       module _ (three : 3 ≤ length t) where
         passed : firstFail (outlineChecks t) ≡ firstFail (drop 3 (outlineChecks t))
         passed = rw (le-leb 1 (length t) some, eq-eqb (getD t 0 0) 27 starts, le-leb 3 (length t) three)
 
-        pub check-length : lengthRight t ≡ false → Not (NoFrame 3) ≡ outlineOf t
+        pub check-length : lengthRight t ≡ false → Not (NoFrame 3 (firstBad lengthCells 2 (lengthBytes t))) ≡ outlineOf t
         check-length h = answered 3 (passed ∙ rw h)
 
         module _ (right : lengthRight t ≡ true) where
-          pub check-whole : length t < lengthOf t → Not (NoFrame 2) ≡ outlineOf t
+          pub check-whole : length t < lengthOf t → Not (NoFrame 2 None) ≡ outlineOf t
           check-whole h = answered 2 (passed ∙ rw (right, lt-leb (lengthOf t) (length t) h))
 
           module _ (whole : lengthOf t ≤ length t) where
-            pub check-end : ended (own t) ≡ false → Not (NoFrame 4) ≡ outlineOf t
+            pub check-end : ended (own t) ≡ false → Not (NoFrame 4 None) ≡ outlineOf t
             check-end h = answered 4 (passed ∙ rw (right, le-leb (lengthOf t) (length t) whole, h))
 
             module _ (ends : ended (own t) ≡ true) where
-              pub check-byte : (checkByte (own t) ≡ xorOf (inner (own t)) → ⊥) → Not (NoFrame 5) ≡ outlineOf t
+              pub check-byte : (checkByte (own t) ≡ xorOf (inner (own t)) → ⊥) → Not (NoFrame 5 None) ≡ outlineOf t
               check-byte h = answered 5 (passed ∙ rw (right, le-leb (lengthOf t) (length t) whole, ends, ne-eqb (checkByte (own t)) (xorOf (inner (own t))) h))
 
               module _ (checked : checkByte (own t) ≡ xorOf (inner (own t))) where
-                pub check-head : goodCells kindCells (drop 3 (own t)) ≡ false → Not (Refused 6 (lengthOf t)) ≡ outlineOf t
+                pub check-head : goodCells kindCells (drop 3 (own t)) ≡ false → Not (Refused 6 (lengthOf t) (firstBad kindCells 6 (drop 3 (own t)))) ≡ outlineOf t
                 check-head h =
                     answered 6 (passed ∙ rw (right, le-leb (lengthOf t) (length t) whole, ends, eq-eqb (checkByte (own t)) (xorOf (inner (own t))) checked, h))
 
@@ -166,6 +170,13 @@ module _ (t : List ℕ) (starts : getD t 0 0 ≡ 27) (three : 3 ≤ length t) (r
   left-checks : firstFail (outlineChecks t) ≡ firstFail (lastChecks (own t))
   left-checks = passed t (omega arith) starts three ∙ rw (right, le-leb (lengthOf t) (length t) whole)
 
+-- the outline of a number: the frame's own bytes, those of its length, and the length
+abbrev placed : ℕ → List ℕ → List ℕ → ℕ → Outline
+placed n m bs l =
+    cond (eqb n 0) (Whole (headOf m))
+    (Not (named n (record { format = 0; seq = 0; length = l })
+    (cond (eqb n 3) (firstBad lengthCells 2 bs) (cond (eqb n 6) (firstBad kindCells 6 (drop 3 m)) None))))
+
 -- any bytes behind the frame's own change nothing
 pub outline-own : (t : List ℕ) → getD t 0 0 ≡ 27 → 3 ≤ length t → lengthRight t ≡ true → lengthOf t ≤ length t → outlineOf (own t) ≡ outlineOf t
 unfolding outlineOf
@@ -178,21 +189,22 @@ outline-own t starts three right whole =
     left-checks f (own-starts t starts three right whole) (omega (arith, count, least t starts three right whole)) (own-right t starts three right whole) (omega arith)
     ∙ ap (λ (m : List ℕ). firstFail (lastChecks m)) same
     ∙ sym (left-checks t starts three right whole) in
-    ap₂ (λ (n l : ℕ). cond (eqb n 0) (Whole (headOf (own f))) (Not (named n (record { format = 0; seq = 0; length = l })))) checks told
-    ∙ ap (λ (m : List ℕ). cond (eqb (firstFail (outlineChecks t)) 0) (Whole (headOf m)) (Not (named (firstFail (outlineChecks t)) (record { format = 0; seq = 0; length = lengthOf t })))) same
+    let bytes = own-bytes t starts three right whole in
+    ap₂ (λ (n l : ℕ). cond (eqb n 0) (Whole (headOf (own f))) (Not (named n (record { format = 0; seq = 0; length = l }) (outlinePlace n f)))) checks told
+    ∙ ap₂ (λ (m bs : List ℕ). placed (firstFail (outlineChecks t)) m bs (lengthOf t)) same bytes
 
 -- ---- a frame's own bytes f, test by test
 module _ (f : List ℕ) (long : 14 ≤ length f) (starts : getD f 0 0 ≡ 27) (right : lengthRight f ≡ true) (told : lengthOf f ≡ length f) where
   is-own : own f ≡ f
   is-own = ap (λ (k : ℕ). take k f) told ∙ take-length f
 
-  pub own-return : (getD f (length f - 2) 0 ≡ 13 → ⊥) → Not (NoFrame 4) ≡ outlineOf f
+  pub own-return : (getD f (length f - 2) 0 ≡ 13 → ⊥) → Not (NoFrame 4 None) ≡ outlineOf f
   own-return h =
       check-end f (omega arith) starts (omega arith) right (omega arith)
       (ap ended is-own ∙ ap (λ (t : Bool). t && eqb (getD f (length f - 1) 0) 10) (ne-eqb (getD f (length f - 2) 0) 13 h))
 
   module _ (cr : getD f (length f - 2) 0 ≡ 13) where
-    pub own-feed : (getD f (length f - 1) 0 ≡ 10 → ⊥) → Not (NoFrame 4) ≡ outlineOf f
+    pub own-feed : (getD f (length f - 1) 0 ≡ 10 → ⊥) → Not (NoFrame 4 None) ≡ outlineOf f
     own-feed h =
         check-end f (omega arith) starts (omega arith) right (omega arith)
         (ap ended is-own ∙ ap₂ _&&_ (eq-eqb (getD f (length f - 2) 0) 13 cr) (ne-eqb (getD f (length f - 1) 0) 10 h))
@@ -206,7 +218,7 @@ module _ (f : List ℕ) (long : 14 ≤ length f) (starts : getD f 0 0 ≡ 27) (r
           let e : length f - 3 - 1 ≡ length f - 4 = omega arith in
           sym (is ∙ ap (λ (k : ℕ). xorOf (take k (drop 1 f))) e ∙ ap (λ (m : List ℕ). xorOf (inner m)) (sym is-own))
 
-      pub own-check : (getD f (length f - 3) 0 ≡ x → ⊥) → Not (NoFrame 5) ≡ outlineOf f
+      pub own-check : (getD f (length f - 3) 0 ≡ x → ⊥) → Not (NoFrame 5 None) ≡ outlineOf f
       own-check h =
           check-byte f (omega arith) starts (omega arith) right (omega arith) ends
           (λ q. h (sym (ap checkByte is-own) ∙ q ∙ covers))
@@ -232,9 +244,9 @@ module _ (f : List ℕ) (long : 14 ≤ length f) (starts : getD f 0 0 ≡ 27) (r
             ap (λ (r : Block). r .good) halves ∙ head-good (getD f 2 0) (drop 3 f) enough (length-last f (omega arith) right)
             ∙ ap (λ (m : List ℕ). goodCells kindCells (drop 3 m)) (sym is-own)
 
-        pub own-head : h .good ≡ false → Not (Refused 6 (length f)) ≡ outlineOf f
-        own-head b =
-            ap (λ (k : ℕ). Not (Refused 6 k)) (sym told)
+        pub own-head : h .good ≡ false → (p : Place) → p ≡ firstBad kindCells 6 (drop 3 f) → Not (Refused 6 (length f) p) ≡ outlineOf f
+        own-head b p at =
+            ap₂ (λ (k : ℕ) (x : Place). Not (Refused 6 k x)) (sym told) (at ∙ ap (λ (m : List ℕ). firstBad kindCells 6 (drop 3 m)) (sym is-own))
             ∙ check-head f (omega arith) starts (omega arith) right (omega arith) ends checked (sym digits-good ∙ b)
 
         pub own-whole : h .good ≡ true → Whole (record { kind = h .first % 1000000; seq = h .last; length = length f }) ≡ outlineOf f
@@ -255,15 +267,15 @@ module _ (line : List ℕ) (at : ℕ) where
   first-at : getD (drop at line) 0 0 ≡ getD line at 0
   first-at = let e : at + 0 ≡ at = omega arith in byte-at 0 ∙ ap (λ (k : ℕ). getD line k 0) e
 
-  pub line-none : length line ≤ at → Not (NoFrame 2) ≡ outlineOf (drop at line)
+  pub line-none : length line ≤ at → Not (NoFrame 2 None) ≡ outlineOf (drop at line)
   line-none h = check-none (drop at line) (rw length-drop (omega arith))
 
   module _ (some : at < length line) where
-    pub line-first : (getD line at 0 ≡ 27 → ⊥) → Not (NoFrame 1) ≡ outlineOf (drop at line)
+    pub line-first : (getD line at 0 ≡ 27 → ⊥) → Not (NoFrame 1 None) ≡ outlineOf (drop at line)
     line-first h = check-first (drop at line) (rw length-drop (omega arith)) (λ q. h (sym first-at ∙ q))
 
     module _ (starts : getD line at 0 ≡ 27) where
-      pub line-three : length line - at < 3 → Not (NoFrame 2) ≡ outlineOf (drop at line)
+      pub line-three : length line - at < 3 → Not (NoFrame 2 None) ≡ outlineOf (drop at line)
       line-three h = check-three (drop at line) (rw length-drop (omega arith)) (first-at ∙ starts) (rw length-drop (omega arith))
 
       module _ (three : 3 ≤ length line - at) (n : ℕ) (is : n ≡ lengthIn (getD line (at + 1) 0) (getD line (at + 2) 0)) where
@@ -273,9 +285,10 @@ module _ (line : List ℕ) (at : ℕ) where
         length-at : n ≡ lengthIn (getD (drop at line) 1 0) (getD (drop at line) 2 0)
         length-at = is ∙ ap₂ lengthIn (sym (byte-at 1)) (sym (byte-at 2))
 
-        pub line-length : n ≡ 0 → Not (NoFrame 3) ≡ outlineOf (drop at line)
-        line-length z =
-            check-length (drop at line) (rw length-drop (omega arith)) (first-at ∙ starts) enough-at
+        pub line-length : n ≡ 0 → (p : Place) → p ≡ firstBad lengthCells 2 (lengthBytes (drop at line)) → Not (NoFrame 3 p) ≡ outlineOf (drop at line)
+        line-length z p said =
+            ap (λ (x : Place). Not (NoFrame 3 x)) said
+            ∙ check-length (drop at line) (rw length-drop (omega arith)) (first-at ∙ starts) enough-at
             (length-none (drop at line) enough-at n length-at z)
 
         module _ (length-is : n ≡ 0 → ⊥) where
@@ -285,7 +298,7 @@ module _ (line : List ℕ) (at : ℕ) where
           told-at : n ≡ lengthOf (drop at line)
           told-at = length-some (drop at line) enough-at n length-at length-is .1
 
-          pub line-whole : length line - at < n → Not (NoFrame 2) ≡ outlineOf (drop at line)
+          pub line-whole : length line - at < n → Not (NoFrame 2 None) ≡ outlineOf (drop at line)
           line-whole h =
               check-whole (drop at line) (rw length-drop (omega arith)) (first-at ∙ starts) enough-at right-at
               (rw (length-drop, ← told-at) h)

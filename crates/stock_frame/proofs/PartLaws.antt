@@ -10,8 +10,10 @@ use lib.Dec.{eqb, leb}
 use borrow.Author.Tests.{eqb-true, eqb-false, leb-true, leb-false}
 use Rattle.digits.specs.Packed.{goodField, value}
 use Rattle.layout.specs.Checks.{firstFail}
+use Rattle.layout.specs.Places.{firstBad}
+use Rattle.digits.specs.declared.halves.Place.the-variants.{None}
 use Rattle.answers.specs.Answers.{named}
-use Rattle.stock_frame.specs.Outline.{lengthBytes, lengthOf, own, body, lengthRight, outlineChecks, headOf, outlineOf}
+use Rattle.stock_frame.specs.Outline.{lengthBytes, lengthOf, own, body, lengthCells, lengthRight, outlineChecks, headOf, outlinePlace, outlineOf}
 use Rattle.stock_frame.specs.Reads.{Outlined}
 use Rattle.stock_frame.specs.declared.head.Head.{Head}
 use Rattle.answers.specs.declared.Answer.{Answer}
@@ -27,19 +29,19 @@ module _ (t : List ℕ) where
   whole-outlined h e = go (eqb (firstFail (outlineChecks t)) 0) refl (answered t (firstFail (outlineChecks t)) refl ∙ e)
     where
       go : (b : Bool) → eqb (firstFail (outlineChecks t)) 0 ≡ b
-          → cond b (Whole (headOf (own t))) (Not (named (firstFail (outlineChecks t)) (record { format = 0; seq = 0; length = lengthOf t }))) ≡ Whole h
+          → cond b (Whole (headOf (own t))) (Not (named (firstFail (outlineChecks t)) (record { format = 0; seq = 0; length = lengthOf t }) (outlinePlace (firstFail (outlineChecks t)) t))) ≡ Whole h
           → Outlined t × (h ≡ headOf (own t))
       go true z q = (passes-outlined t (eqb-true (firstFail (outlineChecks t)) 0 z), cc)
       go false z q = let x : _≡_ {A = ℕ} 0 1 = cc in absurd (omega arith)
 
   -- any other outline is the answer of the first check that fails
   pub not-outlined : (a : Answer) → outlineOf t ≡ Not a
-      → (firstFail (outlineChecks t) ≡ 0 → ⊥) × (a ≡ named (firstFail (outlineChecks t)) (record { format = 0; seq = 0; length = lengthOf t }))
+      → (firstFail (outlineChecks t) ≡ 0 → ⊥) × (a ≡ named (firstFail (outlineChecks t)) (record { format = 0; seq = 0; length = lengthOf t }) (outlinePlace (firstFail (outlineChecks t)) t))
   not-outlined a e = go (eqb (firstFail (outlineChecks t)) 0) refl (answered t (firstFail (outlineChecks t)) refl ∙ e)
     where
       go : (b : Bool) → eqb (firstFail (outlineChecks t)) 0 ≡ b
-          → cond b (Whole (headOf (own t))) (Not (named (firstFail (outlineChecks t)) (record { format = 0; seq = 0; length = lengthOf t }))) ≡ Not a
-          → (firstFail (outlineChecks t) ≡ 0 → ⊥) × (a ≡ named (firstFail (outlineChecks t)) (record { format = 0; seq = 0; length = lengthOf t }))
+          → cond b (Whole (headOf (own t))) (Not (named (firstFail (outlineChecks t)) (record { format = 0; seq = 0; length = lengthOf t }) (outlinePlace (firstFail (outlineChecks t)) t))) ≡ Not a
+          → (firstFail (outlineChecks t) ≡ 0 → ⊥) × (a ≡ named (firstFail (outlineChecks t)) (record { format = 0; seq = 0; length = lengthOf t }) (outlinePlace (firstFail (outlineChecks t)) t))
       go true z q = let x : _≡_ {A = ℕ} 0 1 = cc in absurd (omega arith)
       go false z q = (eqb-false (firstFail (outlineChecks t)) 0 z, cc)
 
@@ -80,7 +82,7 @@ module _ (t u : List ℕ) where
   more-length : 3 ≤ length t → lengthOf (t ++ u) ≡ lengthOf t
   more-length h = ap value (more-bytes h)
 
-  module _ (settled : outlineOf t ≡ Not (NoFrame 2) → ⊥) where
+  module _ (settled : outlineOf t ≡ Not (NoFrame 2 None) → ⊥) where
     pub outline-more : outlineOf (t ++ u) ≡ outlineOf t
     outline-more = some (leb 1 (length t)) refl
       where
@@ -97,6 +99,7 @@ module _ (t u : List ℕ) where
         right three s true e = whole three s e (leb (lengthOf t) (length t)) refl
         right three s false e =
             sym (check-length (t ++ u) (omega (arith, longer)) (more-first (omega arith) ∙ s) (omega (arith, longer)) (more-right three ∙ e))
+            ∙ ap (λ (bs : List ℕ). Not (NoFrame 3 (firstBad lengthCells 2 bs))) (more-bytes three)
             ∙ check-length t (omega arith) s three e
 
         headed : (some : 1 ≤ length t) → getD t 0 0 ≡ 27 → (b : Bool) → leb 3 (length t) ≡ b → outlineOf (t ++ u) ≡ outlineOf t

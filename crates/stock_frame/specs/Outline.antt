@@ -7,7 +7,10 @@ use lib.Dec.{eqb, leb}
 use Rattle.words.specs.Xor.{xorOf}
 use Rattle.digits.specs.Packed.{goodField, value}
 use Rattle.layout.specs.Cells.{Cell, digits, goodCells, decode}
+use Rattle.layout.specs.Places.{firstBad}
 use Rattle.layout.specs.Checks.{Check, must, firstFail}
+use Rattle.digits.specs.declared.halves.Place.{Place}
+use Rattle.digits.specs.declared.halves.Place.the-variants.{None}
 use Rattle.answers.specs.Answers.{named}
 use Rattle.stock_frame.specs.declared.head.Head.{Head}
 use Rattle.stock_frame.specs.declared.head.Outline.{Outline}
@@ -16,6 +19,9 @@ use Rattle.stock_frame.specs.declared.head.Outline.the-variants.{Whole, 
 -- bytes 2-3, the whole length: 9(4)
 abbrev pub lengthBytes : List ℕ → List ℕ
 lengthBytes t = take 2 (drop 1 t)
+
+abbrev pub lengthCells : List Cell
+lengthCells = digits 4 ∷ []
 
 abbrev pub lengthOf : List ℕ → ℕ
 lengthOf t = value (lengthBytes t)
@@ -84,7 +90,14 @@ outlineChecks t =
 abbrev pub headOf : List ℕ → Head
 headOf f = record { kind = (business f * 100 + format f) * 100 + version f; seq = sequence f; length = length f }
 
+-- where the bad digit is that an answer speaks of, in halves from the frame's first byte: beside 3 in the length, if one is the cause;
+-- beside 6 in bytes 4 to 10; beside no other
+abbrev pub outlinePlace : ℕ → List ℕ → Place
+outlinePlace n t =
+    cond (eqb n 3) (firstBad lengthCells 2 (lengthBytes t))
+    (cond (eqb n 6) (firstBad kindCells 6 (drop 3 (own t))) None)
+
 unfoldable pub outlineOf : List ℕ → Outline
 outlineOf t =
     let n = firstFail (outlineChecks t) in
-    cond (eqb n 0) (Whole (headOf (own t))) (Not (named n (record { format = 0; seq = 0; length = lengthOf t })))
+    cond (eqb n 0) (Whole (headOf (own t))) (Not (named n (record { format = 0; seq = 0; length = lengthOf t }) (outlinePlace n t)))

@@ -7,7 +7,10 @@ ghost use lib.ListN.{length, getD, drop};
 ghost use Rattle.stock_frame.specs.Outline.{lengthOf, lengthRight, outlineOf};
 use crate::head::Head;
 use crate::head::Outline;
+use crate::places::head_place;
+use crate::places::length_place;
 use answers::Answer;
+use digits::halves::Place;
 use words::blocks::eight_at;
 use words::xor::xor_of;
 
@@ -48,14 +51,14 @@ fn own_outline(f: &[u8]) -> Outline
 {
     let n = f.len();
     if f[n - 2] != 13 {
-        return Outline::Not(Answer::NoFrame(4));
+        return Outline::Not(Answer::NoFrame(4, Place::None));
     }
     if f[n - 1] != 10 {
-        return Outline::Not(Answer::NoFrame(4));
+        return Outline::Not(Answer::NoFrame(4, Place::None));
     }
     let x = xor_of(&f[1..n - 3]);
     if f[n - 3] != x {
-        return Outline::Not(Answer::NoFrame(5));
+        return Outline::Not(Answer::NoFrame(5, Place::None));
     }
     let h = eight_at(f, 2);
     if h.good {
@@ -65,7 +68,8 @@ fn own_outline(f: &[u8]) -> Outline
             length: n,
         });
     }
-    Outline::Not(Answer::Refused(6, n))
+    let place = head_place(f);
+    Outline::Not(Answer::Refused(6, n, place))
 }
 
 // The outline of the bytes from a place.
@@ -73,21 +77,22 @@ pub fn outline(line: &[u8], at: usize) -> Outline
     ensures { λ r. ⌜ r ≡ outlineOf (drop at (now (line .entry))) ⌝ }
 {
     if line.len() <= at {
-        return Outline::Not(Answer::NoFrame(2));
+        return Outline::Not(Answer::NoFrame(2, Place::None));
     }
     if line[at] != 27 {
-        return Outline::Not(Answer::NoFrame(1));
+        return Outline::Not(Answer::NoFrame(1, Place::None));
     }
     let left = line.len() - at;
     if left < 3 {
-        return Outline::Not(Answer::NoFrame(2));
+        return Outline::Not(Answer::NoFrame(2, Place::None));
     }
     let n = length_in(line[at + 1], line[at + 2]);
     if n == 0 {
-        return Outline::Not(Answer::NoFrame(3));
+        let place = length_place(line, at);
+        return Outline::Not(Answer::NoFrame(3, place));
     }
     if left < n {
-        return Outline::Not(Answer::NoFrame(2));
+        return Outline::Not(Answer::NoFrame(2, Place::None));
     }
     let end = at + n;
     own_outline(&line[at..end])

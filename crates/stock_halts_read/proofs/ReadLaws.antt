@@ -16,8 +16,8 @@ use Rattle.digits.proofs.Values.{even-field}
 use Rattle.layout.specs.Cells.{raw, digits, goodCells}
 use Rattle.layout.specs.Checks.{firstFail}
 use Rattle.answers.specs.Answers.{named}
-use Rattle.stock_frame.specs.Format.{ranged, valuesOf, bodyChecks, bodyAnswer}
-use Rattle.answers.specs.declared.Frame.{Frame}
+use Rattle.digits.specs.declared.halves.Place.the-variants.{None}
+use Rattle.stock_frame.specs.Format.{ranged, valuesOf, bodyChecks, bodyPlace, bodyAnswer, digitAnswer}
 use Rattle.answers.specs.declared.Answer.{Answer}
 use Rattle.answers.specs.declared.Answer.the-variants.{Accepted, Refused}
 use Rattle.stock_halts.specs.Halts.{nineteenCells, timesRight, nineteenTimed, codeFits, stateRight, nineteenRuled, nineteen, eventOf, sendingOf, haltOf, noHalt, haltReading}
@@ -26,33 +26,39 @@ use Rattle.stock_halts.specs.declared.Sending.{Sending}
 use Rattle.stock_halts.specs.declared.Halt.{Halt}
 use Rattle.stock_halts.specs.declared.HaltReading.{HaltReading}
 use Rattle.layout.proofs.RawLaws.{decode-raws, good-raws}
-use Rattle.stock_frame.proofs.BodyCheckLaws.{fails-range, fails-digits, fails-times, fails-fields, fails-none}
+use Rattle.stock_frame.proofs.BodyCheckLaws.{fails-range, fails-digits, fails-times, fails-fields, fails-none, refused-answer, digit-answer}
 use Rattle.stock_halts_read.proofs.TimeLaws.{times-good, first-time, second-time}
 use Rattle.stock_halts.proofs.HaltLaws.{code-joined, halt-joined, resume-joined, state-joined, halt-of-joined}
 
 -- ---- the answers
-chosen : (n : ℕ) (f : Frame) (m : Halt) → eqb n 0 ≡ false → leb n 5 ≡ false
-    → _≡_ {A = HaltReading} (record { answer = named n f; halt = cond (eqb n 0) m noHalt }) (record { answer = Refused n (f .length); halt = noHalt })
-chosen n f m z s = rw (z, s)
-
 module _ (seq : ℕ) (b : List ℕ) where
   reading-of : (n : ℕ) → firstFail (bodyChecks nineteen b) ≡ n
       → haltReading seq b ≡ record {
-        answer = named n (record { format = 19; seq = seq; length = 13 + length b });
+        answer = named n (record { format = 19; seq = seq; length = 13 + length b }) (bodyPlace nineteen b n);
         halt = cond (eqb n 0) (haltOf seq (valuesOf nineteen b)) noHalt;
       }
   unfolding haltReading bodyAnswer
   reading-of n e =
       ap (λ (k : ℕ). record {
-        answer = named k (record { format = 19; seq = seq; length = 13 + length b });
+        answer = named k (record { format = 19; seq = seq; length = 13 + length b }) (bodyPlace nineteen b k);
         halt = cond (eqb k 0) (haltOf seq (valuesOf nineteen b)) noHalt;
       }) e
 
-  pub refused-as : (n : ℕ) → eqb n 0 ≡ false → leb n 5 ≡ false → firstFail (bodyChecks nineteen b) ≡ n → (k : ℕ) → k ≡ 13 + length b
-      → (x : HaltReading) → (x .answer ≡ Refused n k) × (x .halt ≡ noHalt) → x ≡ haltReading seq b
-  refused-as n z s e k w x p =
-      ap₂ (λ (a : Answer) (m : Halt). record { answer = a; halt = m }) (p .0 ∙ ap (Refused n) w) (p .1)
-      ∙ sym (reading-of n e ∙ chosen n (record { format = 19; seq = seq; length = 13 + length b }) (haltOf seq (valuesOf nineteen b)) z s)
+  -- a refusal hands no halt on
+  answered-as : (x : HaltReading) → x .answer ≡ bodyAnswer nineteen seq b → x .halt ≡ noHalt → eqb (firstFail (bodyChecks nineteen b)) 0 ≡ false → x ≡ haltReading seq b
+  unfolding haltReading
+  answered-as x a h z =
+      ap₂ (λ (y : Answer) (m : Halt). record { answer = y; halt = m }) a
+      (h ∙ sym (ap (λ (t : Bool). cond t (haltOf seq (valuesOf nineteen b)) noHalt) z))
+
+  pub refused-as : (n : ℕ) → eqb n 0 ≡ false → leb n 5 ≡ false → eqb n 11 ≡ false → firstFail (bodyChecks nineteen b) ≡ n → (k : ℕ) → k ≡ 13 + length b
+      → (x : HaltReading) → (x .answer ≡ Refused n k None) × (x .halt ≡ noHalt) → x ≡ haltReading seq b
+  refused-as n z s d e k w x p =
+      answered-as x (p .0 ∙ ap (λ (l : ℕ). Refused n l None) w ∙ refused-answer nineteen seq b n e z s d) (p .1) (ap (λ (i : ℕ). eqb i 0) e ∙ z)
+
+  pub digit-as : length b ≤ 13 → firstFail (bodyChecks nineteen b) ≡ 11
+      → (x : HaltReading) → (x .answer ≡ digitAnswer nineteenCells b) × (x .halt ≡ noHalt) → x ≡ haltReading seq b
+  digit-as l e x p = answered-as x (p .0 ∙ digit-answer nineteen seq b nineteenCells refl (omega arith) e) (p .1) (ap (λ (i : ℕ). eqb i 0) e)
 
 -- ---- a wrong length
 pub wrong-length : (b : List ℕ) → (length b ≡ 13 → ⊥) → firstFail (bodyChecks nineteen b) ≡ 9

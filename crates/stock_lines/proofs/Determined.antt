@@ -16,6 +16,9 @@ use Rattle.stock_lines.proofs.frames.next_frame.Reads as next-frame-rea
 use Rattle.stock_lines.proofs.moves.move_at as move-at
 use Rattle.stock_lines.proofs.moves.move_at.Kinds as move-at-kinds
 use Rattle.stock_lines.proofs.moves.move_at.Reads as move-at-reads
+use Rattle.stock_lines.proofs.pieces.stretch_at as stretch-at
+use Rattle.stock_lines.proofs.pieces.stretch_at.Kinds as stretch-at-kinds
+use Rattle.stock_lines.proofs.pieces.stretch_at.Reads as stretch-at-reads
 use Rattle.stock_lines.proofs.pieces.next_rows as next-rows
 use Rattle.stock_lines.proofs.pieces.next_rows.Kinds as next-rows-kinds
 use Rattle.stock_lines.proofs.pieces.next_rows.Reads as next-rows-reads
@@ -49,3 +52,9 @@ pub determined-next-frame : (κs : Lifetimes.Lfts 1) (a : World.ArgsD next-frame
     (s₁ s₂ : Clauses.AtExit (kinds.endedOf 1 next-frame-kinds.ps next-frame-kinds.r) κs) → next-frame-reads.Post κs a r₁ s₁ → next-frame-reads.Post κs a r₂ s₂
     → r₁ ≡ r₂
 determined-next-frame κs a r₁ r₂ s₁ s₂ p q = p ∙ sym q
+
+-- what `stretch_at` answers
+pub determined-stretch-at : (κs : Lifetimes.Lfts 1) (a : World.ArgsD stretch-at.signature κs) (r₁ r₂ : World.ResD stretch-at.signature κs)
+    (s₁ s₂ : Clauses.AtExit (kinds.endedOf 1 stretch-at-kinds.ps stretch-at-kinds.r) κs) → stretch-at-reads.Post κs a r₁ s₁ → stretch-at-reads.Post κs a r₂ s₂
+    → r₁ ≡ r₂
+determined-stretch-at κs a r₁ r₂ s₁ s₂ p q = p ∙ sym q

@@ -8,6 +8,7 @@ use lib.ListN.{length, getD, drop}
 use lib.Seq.{getD-drop}
 use lib.Dec.{eqb, leb}
 use borrow.Author.Tests.{eqb-false, eq-eqb, ne-eqb, leb-true, leb-false}
+use Rattle.digits.specs.declared.halves.Place.the-variants.{None}
 use Rattle.answers.specs.declared.Answer.{Answer}
 use Rattle.answers.specs.declared.Answer.the-variants.{NoFrame}
 use Rattle.stock_frame.specs.Outline.{outlineOf}
@@ -76,7 +77,7 @@ module _ (c : Bool) (line : List ℕ) where
           ∙ (λ i. onOutline (e i) at (nextFrame c (at + sym past-is i) line)))
 
   -- bytes before the next 27
-  no-outline : (at : ℕ) → at < length line → (getD line at 0 ≡ 27 → ⊥) → outlineOf (drop at line) ≡ Not (NoFrame 1)
+  no-outline : (at : ℕ) → at < length line → (getD line at 0 ≡ 27 → ⊥) → outlineOf (drop at line) ≡ Not (NoFrame 1 None)
   no-outline at h other =
       sym (check-first (drop at line) (some-left answerOf longest sound-answers c line at h)
       (λ q. other (ap (λ (k : ℕ). getD line k 0) (omega arith) ∙ sym (getD-drop at line 0 0) ∙ q)))
@@ -86,7 +87,7 @@ module _ (c : Bool) (line : List ℕ) where
   noise-turn at some =
       let h : at < length line = inside (leb (length line) at) refl in
       let quiet : getD line at 0 ≡ 27 → ⊥ = λ q. omega (arith, some, noise-stops line at h q) in
-      (h, noise-goes-on line at h quiet, frame-further at h (NoFrame 1) (no-outline at h quiet) 1 refl (λ z. omega (arith, z)))
+      (h, noise-goes-on line at h quiet, frame-further at h (NoFrame 1 None) (no-outline at h quiet) 1 refl (λ z. omega (arith, z)))
     where
       inside : (b : Bool) → leb (length line) at ≡ b → at < length line
       inside true q = absurd (omega (arith, some, noise-ends line at (leb-true (length line) at q)))

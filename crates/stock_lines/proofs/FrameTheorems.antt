@@ -9,25 +9,26 @@ use lib.Dec.{eqb, leb}
 use borrow.Author.Tests.{eqb-false, ne-eqb, le-leb, leb-true, leb-false}
 use Rattle.layout.specs.Checks.{Check, firstFail}
 use Rattle.layout.proofs.CheckLaws.{silent, silent-answers}
+use Rattle.digits.specs.declared.halves.Place.{Place}
 use Rattle.answers.specs.Answers.{named}
 use Rattle.answers.specs.declared.Frame.{Frame}
 use Rattle.answers.specs.declared.Answer.the-variants.{Accepted, NoFrame, Refused}
-use Rattle.stock_frame.specs.Outline.{lengthOf, own, body, business, format, version, sequence, headOf, outlineOf, outlineChecks}
+use Rattle.stock_frame.specs.Outline.{lengthOf, own, body, business, format, version, sequence, headOf, outlineOf, outlineChecks, outlinePlace}
 use Rattle.stock_frame.specs.Format.{bodyChecks}
 use Rattle.stock_frame.specs.declared.head.Head.{Head}
 use Rattle.stock_frame.specs.declared.head.Outline.{Outline}
 use Rattle.stock_frame.specs.declared.head.Outline.the-variants.{Whole, Not}
 use Rattle.stock_frame.proofs.OutlineLaws.{length-own}
 use Rattle.stock_frame.proofs.PartLaws.{whole-outlined, not-outlined}
-use Rattle.stock_reading.specs.Reading.{formatOf, kindChecks, checks, answerOf}
+use Rattle.stock_reading.specs.Reading.{formatOf, kindChecks, checks, placeOf, answerOf}
 use Rattle.stock_reading.proofs.ReadingLaws.{checks-outlined, answer-not}
 use Rattle.walk.specs.Answers.{pastOf}
 
 -- ---- an accepted frame is handed out
-refusal : (n : ℕ) (f g : Frame) → (n ≡ 0 → ⊥) → named n f ≡ Accepted g → ⊥
-refusal n f g h e = go (leb n 5) (sym (ap (λ (b : Bool). cond b (Accepted f) (cond (leb n 5) (NoFrame n) (Refused n (f .length)))) (ne-eqb n 0 h)) ∙ e)
+refusal : (n : ℕ) (f g : Frame) (p : Place) → (n ≡ 0 → ⊥) → named n f p ≡ Accepted g → ⊥
+refusal n f g p h e = go (leb n 5) (sym (ap (λ (b : Bool). cond b (Accepted f) (cond (leb n 5) (NoFrame n p) (Refused n (f .length) p))) (ne-eqb n 0 h)) ∙ e)
   where
-    go : (b : Bool) → cond b (NoFrame n) (Refused n (f .length)) ≡ Accepted g → ⊥
+    go : (b : Bool) → cond b (NoFrame n p) (Refused n (f .length) p) ≡ Accepted g → ⊥
     go true q = let z : _≡_ {A = ℕ} 0 1 = cc in omega arith
     go false q = let z : _≡_ {A = ℕ} 0 1 = cc in omega arith
 
@@ -39,7 +40,7 @@ accepted-whole t f a = go (outlineOf t) refl
     go (Whole h) e = ap Whole (whole-outlined t h e .1)
     go (Not x) e =
         let n = not-outlined t x e in
-        absurd (refusal (firstFail (outlineChecks t)) (record { format = 0; seq = 0; length = lengthOf t }) f (n .0) (sym (n .1) ∙ answer-not t x e ∙ a))
+        absurd (refusal (firstFail (outlineChecks t)) (record { format = 0; seq = 0; length = lengthOf t }) f (outlinePlace (firstFail (outlineChecks t)) t) (n .0) (sym (n .1) ∙ answer-not t x e ∙ a))
 
 -- ---- behind its length the walk goes on
 module _ (t : List ℕ) (h : Head) (e : outlineOf t ≡ Whole h) where
@@ -70,7 +71,7 @@ module _ (t : List ℕ) (h : Head) (e : outlineOf t ≡ Whole h) where
       long = let w = whole-outlined t h e in sym (length-own t (w .0)) ∙ ap (λ (x : Head). x .length) (sym (w .1))
 
       go : (x y : Bool) → eqb n 0 ≡ x → leb n 5 ≡ y
-          → pastOf c (cond x (Accepted (record { format = format (own t); seq = sequence (own t); length = lengthOf t })) (cond y (NoFrame n) (Refused n (lengthOf t)))) ≡ h .length
+          → pastOf c (cond x (Accepted (record { format = format (own t); seq = sequence (own t); length = lengthOf t })) (cond y (NoFrame n (placeOf n t)) (Refused n (lengthOf t) (placeOf n t)))) ≡ h .length
       go true y p q = long
       go false true p q = absurd (none-small (omega (arith, eqb-false n 0 p)) (leb-true n 5 q))
       go false false p q =

@@ -9,6 +9,7 @@ use borrow.Author.Tests.{ne-eqb, lt-leb}
 use Rattle.digits.proofs.Bools.{no-false}
 use Rattle.answers.specs.Answers.{answerNumber}
 use Rattle.answers.specs.declared.Answer.{Answer}
+use Rattle.digits.specs.declared.halves.Place.the-variants.{None}
 use Rattle.answers.specs.declared.Answer.the-variants.{Accepted, NoFrame, Refused}
 use Rattle.stock_notices.specs.Notices.{fiveCodec, noNotice}
 use Rattle.stock_quotes.specs.Quotes.{sixCodec, noQuote}
@@ -40,13 +41,13 @@ sound-answers = record {
 -- bytes that follow take no message back
 message-stays : (t u : List ℕ) → (answerNumber (answerOf t) ≡ 2 → ⊥) → (a : Answer) → messageIn a (t ++ u) ≡ messageIn a t
 message-stays t u h (Accepted f) =
-    let settled : answerOf t ≡ NoFrame 2 → ⊥ = λ q. h (ap answerNumber q) in λ i.
+    let settled : answerOf t ≡ NoFrame 2 None → ⊥ = λ q. h (ap answerNumber q) in λ i.
     cond (eqb (f .format) 6) (quote (message-more t u settled sixCodec noQuote i))
     (cond (eqb (f .format) 12) (prices (message-more t u settled twelveCodec noPrices i))
     (cond (eqb (f .format) 19) (halt (message-more t u settled nineteenCodec noHalt i))
     (notice (message-more t u settled fiveCodec noNotice i))))
-message-stays t u h (NoFrame n) = refl
-message-stays t u h (Refused n l) = refl
+message-stays t u h (NoFrame n p) = refl
+message-stays t u h (Refused n l p) = refl
 
 pub sound-sayings : Sound sayings longest
 sound-sayings = record {

@@ -9,6 +9,7 @@ use lib.Seq.{drop-drop}
 use lib.Dec.{eqb}
 use borrow.Author.Tests.{eqb-false, eq-eqb, ne-eqb}
 use Rattle.answers.specs.declared.Answer.{Answer}
+use Rattle.digits.specs.declared.halves.Place.the-variants.{None}
 use Rattle.answers.specs.declared.Answer.the-variants.{NoFrame}
 use Rattle.stock_frame.proofs.OutlineSteps.{check-first}
 use Rattle.stock_reading.specs.Reading.{answerOf}
@@ -29,8 +30,7 @@ use Rattle.walk.specs.declared.rows.Next.the-variants.{Stopped as No-row}
 use Rattle.walk.proofs.AnswerLaws.{past-stops, past-moves, some-left, none-left, move-within, Counting, counting-begins, counting-ends, counting-stops, counting-moves}
 use Rattle.walk.proofs.NextLaws.{kept-behind, ahead, next-ends, next-stops, next-told}
 use Rattle.walk.proofs.NoiseLaws.{noise-next}
-use Rattle.stock_lines.specs.Lines.{answers, longest, moveAt}
-use Rattle.stock_lines.specs.Steps.{stretchOf}
+use Rattle.stock_lines.specs.Lines.{answers, longest, moveAt, stretchOf}
 use Rattle.stock_lines.specs.declared.pieces.Stretch.{Stretch}
 use Rattle.stock_lines.specs.declared.moves.Step.the-variants.{Moved, Stopped}
 use Rattle.stock_lines.proofs.LineLaws.{sound-answers}
@@ -107,8 +107,8 @@ pub record Met (c : Bool) (line : List ℕ) (at : ℕ) (s : Stretch) : Type 0 wh
 
 -- a stretch by its steps
 module _ (c : Bool) (line : List ℕ) (at n : ℕ) (is : n ≡ noiseLength (drop at line)) where
-  pub stretch-noise : 0 < n → record { answer = NoFrame 1; bytes = n } ≡ stretchOf c (drop at line)
-  stretch-noise h = rw (ne-eqb (noiseLength (drop at line)) 0 (λ e. omega (arith, is, e))) (λ i. record { answer = NoFrame 1; bytes = is i })
+  pub stretch-noise : 0 < n → record { answer = NoFrame 1 None; bytes = n } ≡ stretchOf c (drop at line)
+  stretch-noise h = rw (ne-eqb (noiseLength (drop at line)) 0 (λ e. omega (arith, is, e))) (λ i. record { answer = NoFrame 1 None; bytes = is i })
 
   pub stretch-read : n ≤ 0 → (a : Answer) (m : ℕ) → a ≡ answerOf (drop at line) → m ≡ pastOf c a → record { answer = a; bytes = m } ≡ stretchOf c (drop at line)
   stretch-read h a m p q =
@@ -116,8 +116,8 @@ module _ (c : Bool) (line : List ℕ) (at n : ℕ) (is : n ≡ noiseLength (drop
       (λ i. record { answer = p i; bytes = (q ∙ ap (pastOf c) p) i })
 
 -- where no 27 stands the reading answers 1
-quiet : (b : ℕ) (bs : List ℕ) → (b ≡ 27 → ⊥) → answerOf (b ∷ bs) ≡ NoFrame 1
-quiet b bs h = sym (answer-not (b ∷ bs) (NoFrame 1) (sym (check-first (b ∷ bs) (omega arith) h)))
+quiet : (b : ℕ) (bs : List ℕ) → (b ≡ 27 → ⊥) → answerOf (b ∷ bs) ≡ NoFrame 1 None
+quiet b bs h = sym (answer-not (b ∷ bs) (NoFrame 1 None) (sym (check-first (b ∷ bs) (omega arith) h)))
 
 noise-within : (t : List ℕ) → noiseLength t ≤ length t
 noise-within [] = omega arith
@@ -133,7 +133,7 @@ module _ {c : Bool} {line : List ℕ} {at : ℕ} {s : Stretch} (M : Met c line a
 
   -- a stretch is a reading's turn, or bytes before the next 27
   pub record Noise : Type 0 where
-    pub answers-one : s .answer ≡ NoFrame 1
+    pub answers-one : s .answer ≡ NoFrame 1 None
     pub is-noise : s .bytes ≡ noiseLength bytes
     pub some : 1 ≤ s .bytes
 
@@ -141,7 +141,7 @@ module _ {c : Bool} {line : List ℕ} {at : ℕ} {s : Stretch} (M : Met c line a
   by-kind P turn noise = go (eqb (noiseLength bytes) 0) refl (M .is)
     where
       go : (x : Bool) → eqb (noiseLength bytes) 0 ≡ x
-          → s ≡ cond x (record { answer = answerOf bytes; bytes = pastOf c (answerOf bytes) }) (record { answer = NoFrame 1; bytes = noiseLength bytes }) → P
+          → s ≡ cond x (record { answer = answerOf bytes; bytes = pastOf c (answerOf bytes) }) (record { answer = NoFrame 1 None; bytes = noiseLength bytes }) → P
       go true e q =
           let says = ap (λ (y : Stretch). y .answer) q in
           turn (record { left-over = M .left-over; says = says; moves = ap (λ (y : Stretch). y .bytes) q ∙ sym (ap (pastOf c) says) })

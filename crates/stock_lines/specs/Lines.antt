@@ -6,6 +6,7 @@ use lib.ListN.{drop}
 use lib.Dec.{eqb}
 use Rattle.answers.specs.Answers.{answerNumber, answerValues, answerLength}
 use Rattle.answers.specs.declared.Answer.{Answer}
+use Rattle.digits.specs.declared.halves.Place.the-variants.{None}
 use Rattle.answers.specs.declared.Answer.the-variants.{Accepted, NoFrame, Refused}
 use Rattle.stock_notices.specs.Notices.{fiveCodec, noNotice}
 use Rattle.stock_notices.specs.declared.Notice.{Notice}
@@ -20,13 +21,15 @@ use Rattle.stock_frame.specs.declared.head.Outline.{Outline}
 use Rattle.stock_frame.specs.declared.head.Outline.the-variants.{Whole, Not}
 use Rattle.stock_reading.specs.Reading.{answerOf, messageBy}
 use Rattle.walk.specs.Walk.{Reading, Move, taken, stops, walkFrom}
-use Rattle.walk.specs.Answers.{answering}
+use Rattle.walk.specs.Answers.{answering, pastOf}
+use Rattle.walk.specs.Noise.{noiseLength}
 use Rattle.walk.specs.Told.{nextOf}
 use Rattle.walk.specs.declared.rows.Kept.{Kept}
 use Rattle.walk.specs.declared.rows.Next.{Next}
 use Rattle.stock_lines.specs.declared.frames.Ahead.{Ahead}
 use Rattle.stock_lines.specs.declared.frames.Ahead.the-variants.{Frame, Nothing}
 use Rattle.stock_lines.specs.declared.moves.Step.{Step}
+use Rattle.stock_lines.specs.declared.pieces.Stretch.{Stretch}
 use Rattle.stock_lines.specs.declared.moves.Step.the-variants.{Moved, Stopped}
 
 -- the reading of the frames, by their answers
@@ -51,8 +54,8 @@ messageIn (Accepted f) t =
     (cond (eqb (f .format) 12) (prices (messageBy twelveCodec noPrices t))
     (cond (eqb (f .format) 19) (halt (messageBy nineteenCodec noHalt t))
     (notice (messageBy fiveCodec noNotice t))))
-messageIn (NoFrame n) t = none
-messageIn (Refused n l) t = none
+messageIn (NoFrame n p) t = none
+messageIn (Refused n l p) t = none
 
 -- an answer with its message
 pub record Saying : Type 0 where
@@ -82,6 +85,12 @@ stepNumber Stopped = 2
 abbrev pub stepValues : Step → List ℕ
 stepValues (Moved r) = r .at ∷ r .bytes ∷ answerValues (r .answer)
 stepValues Stopped = []
+
+-- what a walk meets from a place on: the bytes before the next 27 at once, answered 1; at a 27 what the reading answers
+abbrev pub stretchOf : Bool → List ℕ → Stretch
+stretchOf closed t =
+    let n = noiseLength t in
+    cond (eqb n 0) (record { answer = answerOf t; bytes = pastOf closed (answerOf t) }) (record { answer = NoFrame 1 None; bytes = n })
 
 -- the next rows of a line from a place on, with what is kept from the pieces before
 abbrev pub nextRows : Bool → Kept → ℕ → List ℕ → Next

@@ -2,9 +2,9 @@
 ghost use mathlib.Core.Path.{_≡_};
 ghost use lib.ListN.{drop};
 ghost use Rattle.walk.specs.Noise.{noiseLength};
-ghost use Rattle.stock_lines.specs.Lines.{nextRows};
-ghost use Rattle.stock_lines.specs.Steps.{stretchOf};
+ghost use Rattle.stock_lines.specs.Lines.{stretchOf, nextRows};
 use answers::Answer;
+use digits::halves::Place;
 use stock_reading::reading::read;
 use walk::past::past;
 use walk::rows::Kept;
@@ -12,9 +12,9 @@ use walk::rows::Next;
 use walk::rows::Told;
 
 // What a walk meets at a place: an answer, and the bytes that it moves past, 0 where the walk stops.
-struct Stretch {
-    answer: Answer,
-    bytes: usize,
+pub struct Stretch {
+    pub answer: Answer,
+    pub bytes: usize,
 }
 
 // How many bytes stand before the next 27, or the end.
@@ -32,13 +32,13 @@ pub(crate) fn noise(line: &[u8], at: usize) -> usize
 }
 
 // Bytes before the next 27 are all skipped for the same reason, and are met at once.
-fn stretch_at(line: &[u8], at: usize, closed: bool) -> Stretch
+pub fn stretch_at(line: &[u8], at: usize, closed: bool) -> Stretch
     ensures { λ r. ⌜ r ≡ stretchOf closed (drop at (now (line .entry))) ⌝ }
 {
     let n = noise(line, at);
     if n > 0 {
         return Stretch {
-            answer: Answer::NoFrame(1),
+            answer: Answer::NoFrame(1, Place::None),
             bytes: n,
         };
     }

@@ -6,14 +6,18 @@ use mathlib.Core.List.{List, [], _∷_}
 use native.Mathlib.Omega.{arith}
 use lib.ListN.{length, getD, take, drop, replicate, length-drop}
 use lib.Seq.{take-all, take-length}
-use lib.Dec.{ltb}
+use lib.Dec.{eqb, ltb}
 use borrow.Author.Tests.{le-leb, lt-leb, ne-eqb, lt-ltb, eq-eqb}
 use Rattle.digits.specs.Packed.{two, goodByte, goodField}
 use Rattle.digits.proofs.Bools.{and-both}
 use Rattle.digits.proofs.PackedLaws.{two-lt}
-use Rattle.layout.specs.Cells.{raw, size, goodCells, decode}
+use Rattle.digits.specs.Halves.{badField, orElse}
+use Rattle.digits.specs.declared.halves.Place.the-variants.{None}
+use Rattle.layout.specs.Cells.{raw, digits, size, goodCells, decode}
+use Rattle.layout.proofs.PlaceLaws.{firstBad-raws}
 use Rattle.layout.specs.Checks.{firstFail}
-use Rattle.stock_frame.specs.Format.{valuesOf, bodyChecks, bodyAnswer}
+use Rattle.stock_frame.specs.Format.{valuesOf, bodyChecks, bodyHalf, bodyAnswer, digitAnswer}
+use Rattle.stock_frame.proofs.BodyCheckLaws.{refused-answer, digit-answer}
 use Rattle.layout.specs.Bytes.{bytesOver}
 use Rattle.layout.proofs.CheckLaws.{pass}
 use Rattle.answers.specs.declared.Answer.{Answer}
@@ -82,11 +86,23 @@ checks-five (x ∷ t) l h = checks-here x t (omega arith)
 
 -- ---- the answers
 -- a refusal of a check that says the length
-pub read-refused : (k seq : ℕ) (b : List ℕ) (r : NoticeReading) → 5 < k → firstFail (bodyChecks five b) ≡ k
-    → (r .answer ≡ Answer.Refused k (13 + length b)) × (r .notice ≡ noNotice) → r ≡ noticeReading seq b
-unfolding noticeReading bodyAnswer
-read-refused k seq b r h e p =
-    rw (e, ne-eqb k 0 (λ z. omega arith), lt-leb k 5 h) (ap₂ (λ (a : Answer) (n : Notice). record { answer = a; notice = n }) (p .0) (p .1))
+pub read-refused : (k seq : ℕ) (b : List ℕ) (r : NoticeReading) → 5 < k → eqb k 11 ≡ false → firstFail (bodyChecks five b) ≡ k
+    → (r .answer ≡ Answer.Refused k (13 + length b) None) × (r .notice ≡ noNotice) → r ≡ noticeReading seq b
+unfolding noticeReading
+read-refused k seq b r h d e p =
+    let z : eqb k 0 ≡ false = ne-eqb k 0 (λ z. omega arith) in
+    ap₂ (λ (a : Answer) (n : Notice). record { answer = a; notice = n })
+    (p .0 ∙ refused-answer five seq b k e z (lt-leb k 5 h) d)
+    (p .1 ∙ sym (ap (λ (t : Bool). cond t (noticeOf seq (valuesOf five b)) noNotice) (ap (λ (i : ℕ). eqb i 0) e ∙ z)))
+
+-- a bad digit: only the category can have one
+pub read-digit : (seq : ℕ) (b : List ℕ) (r : NoticeReading) → length b ≤ 61 → firstFail (bodyChecks five b) ≡ 11
+    → (r .answer ≡ digitAnswer (digits 2 ∷ []) b) × (r .notice ≡ noNotice) → r ≡ noticeReading seq b
+unfolding noticeReading
+read-digit seq b r h e p =
+    ap₂ (λ (a : Answer) (n : Notice). record { answer = a; notice = n })
+    (p .0 ∙ digit-answer five seq b (digits 2 ∷ []) (sym (ap (orElse (badField 2 bodyHalf (take 1 b))) (firstBad-raws (length b - 1) (bodyHalf + 2) (drop 1 b)))) (omega arith) e)
+    (p .1 ∙ sym (ap (λ (i : ℕ). cond (eqb i 0) (noticeOf seq (valuesOf five b)) noNotice) e))
 
 -- each check's test
 module _ (b : List ℕ) (l : 1 ≤ length b) (h : length b ≤ 61) where

@@ -16,14 +16,15 @@ use Rattle.layout.specs.Checks.{firstFail}
 use Rattle.answers.specs.Answers.{named}
 use Rattle.answers.specs.declared.Answer.{Answer}
 use Rattle.answers.specs.declared.Frame.{Frame}
-use Rattle.stock_frame.specs.Format.{ranged, bodyChecks, bodyAnswer}
-use Rattle.stock_frame.proofs.BodyCheckLaws.{fails-range, fails-digits, fails-times, fails-fields, fails-none}
+use Rattle.digits.specs.declared.halves.Place.the-variants.{None}
+use Rattle.stock_frame.specs.Format.{ranged, bodyChecks, bodyPlace, bodyAnswer, digitAnswer}
+use Rattle.stock_frame.proofs.BodyCheckLaws.{fails-range, fails-digits, fails-times, fails-fields, fails-none, refused-answer, digit-answer}
 use Rattle.stock_prices.specs.declared.Slot.{Slot}
 use Rattle.stock_prices.specs.declared.PricesReading.{PricesReading}
 use Rattle.stock_prices.specs.Prices.{slotsPass, slotTimed, slotRuled, twelve, twelveCells, twelveRuled, pricesOf, noPrices, pricesReading}
 use Rattle.stock_prices.proofs.AndLaws.{none, later}
 use Rattle.stock_prices.proofs.PriceLaws.{size-slotsCells}
-use Rattle.stock_prices_read.specs.Steps.{refusal, acceptance, rowOf}
+use Rattle.stock_prices_read.specs.Steps.{refusal, withoutPrices, acceptance, rowOf}
 use Rattle.stock_prices_read.proofs.SlotsRead.{goodFrom, slotsFrom, passFrom}
 
 -- the frame of a body
@@ -32,20 +33,27 @@ frame seq b = record { format = 12; seq = seq; length = 13 + length b }
 
 -- a reading by the number of the check that fails first
 reading-by : (seq : ℕ) (b : List ℕ) (n : ℕ) → firstFail (bodyChecks twelve b) ≡ n
-    → record { answer = named n (frame seq b); prices = cond (eqb n 0) (pricesOf seq (decode twelveCells b)) noPrices } ≡ pricesReading seq b
+    → record { answer = named n (frame seq b) (bodyPlace twelve b n); prices = cond (eqb n 0) (pricesOf seq (decode twelveCells b)) noPrices } ≡ pricesReading seq b
 unfolding pricesReading bodyAnswer
 reading-by seq b n e =
-    ap (λ (k : ℕ). record { answer = named k (frame seq b); prices = cond (eqb k 0) (pricesOf seq (decode twelveCells b)) noPrices }) (sym e)
+    ap (λ (k : ℕ). record { answer = named k (frame seq b) (bodyPlace twelve b k); prices = cond (eqb k 0) (pricesOf seq (decode twelveCells b)) noPrices }) (sym e)
 
-pub refused-as : (seq : ℕ) (b : List ℕ) (n len : ℕ) → 5 < n → 13 + length b ≡ len → firstFail (bodyChecks twelve b) ≡ n
+-- a refusal hands no prices on
+answered-as : (seq : ℕ) (b : List ℕ) (a : Answer) → a ≡ bodyAnswer twelve seq b → eqb (firstFail (bodyChecks twelve b)) 0 ≡ false
+    → record { answer = a; prices = noPrices } ≡ pricesReading seq b
+unfolding pricesReading
+answered-as seq b a e z =
+    ap₂ (λ (x : Answer) (t : Bool). record { answer = x; prices = cond t (pricesOf seq (decode twelveCells b)) noPrices }) e (sym z)
+
+pub refused-as : (seq : ℕ) (b : List ℕ) (n len : ℕ) → 5 < n → (n ≡ 11 → ⊥) → 13 + length b ≡ len → firstFail (bodyChecks twelve b) ≡ n
     → (r : PricesReading) → r ≡ refusal n len → r ≡ pricesReading seq b
-refused-as seq b n len h e f r q =
+refused-as seq b n len h d e f r q =
+    let z : eqb n 0 ≡ false = ne-eqb n 0 (λ z. omega (arith, z)) in
     q ∙ ap (refusal n) (sym e)
-    ∙ sym (ap₂ (λ (t u : Bool). record {
-      answer = cond t (Answer.Accepted (frame seq b)) (cond u (Answer.NoFrame n) (Answer.Refused n (13 + length b)));
-      prices = cond t (pricesOf seq (decode twelveCells b)) noPrices;
-    }) (ne-eqb n 0 (λ z. omega (arith, z))) (lt-leb n 5 h))
-    ∙ reading-by seq b n f
+    ∙ answered-as seq b (Answer.Refused n (13 + length b) None) (refused-answer twelve seq b n f z (lt-leb n 5 h) (ne-eqb n 11 d)) (ap (λ (k : ℕ). eqb k 0) f ∙ z)
+
+pub digit-as : (seq : ℕ) (b : List ℕ) → length b ≡ 361 → firstFail (bodyChecks twelve b) ≡ 11 → withoutPrices (digitAnswer twelveCells b) ≡ pricesReading seq b
+digit-as seq b l f = answered-as seq b (digitAnswer twelveCells b) (digit-answer twelve seq b twelveCells refl (omega (arith, l)) f) (ap (λ (k : ℕ). eqb k 0) f)
 
 -- the numbers in a body
 abbrev numbers : List ℕ → List ℕ
@@ -109,12 +117,14 @@ module _ (b : List ℕ) where
           fields-told true f = fails-none twelve b in-range refl sized good-all (pass-is slotTimed ∙ t) (ruled-is ∙ f)
           fields-told false f = fails-fields twelve b in-range refl sized good-all (pass-is slotTimed ∙ t) (ruled-is ∙ f)
 
-      pub check-told : (g t r : Bool) → g ≡ goodFrom b 10 1 → (g ≡ true → (t ≡ passFrom b slotTimed 10 n 1) × (r ≡ passFrom b slotRuled 10 n 1))
-          → firstFail (bodyChecks twelve b) ≡ rowOf g t n r
-      check-told false t r e f = fails-digits twelve b in-range refl sized (good-is ∙ later good-head (sym e))
-      check-told true false r e f = fails-times twelve b in-range refl sized (good-all (sym e)) (pass-is slotTimed ∙ sym (f refl .0))
-      check-told true true r e f =
-          fields-told (sym e) (sym (f refl .0)) ((leb 1 n && leb n 10) && r) (ap (λ (x : Bool). (leb 1 n && leb n 10) && x) (sym (f refl .1)))
+      pub bad-slots : goodFrom b 10 1 ≡ false → firstFail (bodyChecks twelve b) ≡ 11
+      bad-slots e = fails-digits twelve b in-range refl sized (good-is ∙ later good-head e)
+
+      pub check-told : goodFrom b 10 1 ≡ true → (t r : Bool) → t ≡ passFrom b slotTimed 10 n 1 → r ≡ passFrom b slotRuled 10 n 1
+          → firstFail (bodyChecks twelve b) ≡ rowOf t n r
+      check-told g false r e f = fails-times twelve b in-range refl sized (good-all g) (pass-is slotTimed ∙ sym e)
+      check-told g true r e f =
+          fields-told g (sym e) ((leb 1 n && leb n 10) && r) (ap (λ (x : Bool). (leb 1 n && leb n 10) && x) (sym f))
 
     pub accepted : (seq : ℕ) (ss : List Slot) → ss ≡ slotsFrom b 10 1 → firstFail (bodyChecks twelve b) ≡ 0 → acceptance seq n ss ≡ pricesReading seq b
     accepted seq ss e f =
@@ -124,21 +134,16 @@ module _ (b : List ℕ) where
         ∙ reading-by seq b 0 f
 
 -- ---- the checks that what the slots told can fail
-pub check-high : (g t : Bool) (n : ℕ) (r : Bool) → 0 < rowOf g t n r → 10 < rowOf g t n r
-check-high false t n r h = lit< tt
-check-high true false n r h = lit< tt
-check-high true true n r h = go ((leb 1 n && leb n 10) && r) h
+pub check-high : (t : Bool) (n : ℕ) (r : Bool) → 0 < rowOf t n r → 11 < rowOf t n r
+check-high false n r h = lit< tt
+check-high true n r h = go ((leb 1 n && leb n 10) && r) h
   where
-    go : (x : Bool) → 0 < cond x 0 13 → 10 < cond x 0 13
+    go : (x : Bool) → 0 < cond x 0 13 → 11 < cond x 0 13
     go true k = absurd (omega (arith, k))
     go false k = lit< tt
 
-pub check-fields : {g t : Bool} (n : ℕ) (r : Bool) → g ≡ true → t ≡ true → {x : Bool} → ((leb 1 n && leb n 10) && r) ≡ x → cond x 0 13 ≡ rowOf g t n r
-check-fields {g} {t} n r e f {x} h = sym (ap₂ (λ (u v : Bool). cond u (cond v (cond ((leb 1 n && leb n 10) && r) 0 13) 12) 11) e f ∙ ap (λ (y : Bool). cond y 0 13) h)
-
-pub check-good : (g t : Bool) (n : ℕ) (r : Bool) → rowOf g t n r ≡ 0 → g ≡ true
-check-good true t n r e = refl
-check-good false t n r e = cc
+pub check-fields : {t : Bool} (n : ℕ) (r : Bool) → t ≡ true → {x : Bool} → ((leb 1 n && leb n 10) && r) ≡ x → cond x 0 13 ≡ rowOf t n r
+check-fields {t} n r f {x} h = sym (ap (λ (v : Bool). cond v (cond ((leb 1 n && leb n 10) && r) 0 13) 12) f ∙ ap (λ (y : Bool). cond y 0 13) h)
 
 -- ---- a digit
 pub under-ten : (d : ℕ) → ltb d 10 ≡ leb d 9

@@ -6,6 +6,7 @@ use lib.ListN.{take, drop}
 use lib.Dec.{leb}
 use Rattle.digits.specs.Packed.{goodField, value}
 use Rattle.amounts.specs.Amounts.{asPrice, asQuantity}
+use Rattle.digits.specs.declared.halves.Place.the-variants.{None}
 use Rattle.answers.specs.declared.Answer.{Answer}
 use Rattle.stock_prices.specs.declared.Slot.{Slot}
 use Rattle.stock_prices.specs.declared.PricesReading.{PricesReading}
@@ -15,7 +16,11 @@ use Rattle.stock_prices_read.specs.declared.slots.FiguresField.{FiguresF
 
 -- a refusal by its number
 abbrev pub refusal : ℕ → ℕ → PricesReading
-refusal n length = record { answer = Answer.Refused n length; prices = noPrices }
+refusal n length = record { answer = Answer.Refused n length None; prices = noPrices }
+
+-- an answer that has no prices
+abbrev pub withoutPrices : Answer → PricesReading
+withoutPrices a = record { answer = a; prices = noPrices }
 
 -- an accepted body: the frame's own length is 374
 abbrev pub acceptance : ℕ → ℕ → List Slot → PricesReading
@@ -40,6 +45,6 @@ figuresOf b at = record {
 abbrev pub figuresAt : List ℕ → ℕ → FiguresField
 figuresAt b at = cond (figuresGood b at) (FiguresField.Is (figuresOf b at)) FiguresField.Bad
 
--- the check that fails first, or 0: the slots' digits, their times, the count and the slots' fields
-abbrev pub rowOf : Bool → Bool → ℕ → Bool → ℕ
-rowOf good timed n ruled = cond good (cond timed (cond ((leb 1 n && leb n 10) && ruled) 0 13) 12) 11
+-- the check that fails first behind the digits, or 0: the slots' times, the count and the slots' fields
+abbrev pub rowOf : Bool → ℕ → Bool → ℕ
+rowOf timed n ruled = cond timed (cond ((leb 1 n && leb n 10) && ruled) 0 13) 12

@@ -1,13 +1,17 @@
 // Prices read out of a body.
 ghost use mathlib.Core.Path.{_≡_};
-ghost use Rattle.stock_prices.specs.Prices.{pricesReading};
+ghost use Rattle.layout.specs.Places.{cellsOf};
+ghost use Rattle.stock_frame.specs.Format.{digitAnswer};
+ghost use Rattle.stock_prices.specs.Prices.{twelveCells, pricesReading};
 ghost use Rattle.digits.specs.Packed.{goodByte};
-ghost use Rattle.stock_prices_read.specs.Steps.{refusal, acceptance, rowOf};
+ghost use Rattle.stock_prices_read.specs.Steps.{refusal, withoutPrices, acceptance, rowOf};
 
 mod slots;
 
 use answers::Answer;
 use answers::Frame;
+use digits::halves::Place;
+use stock_frame::places::bad_digit;
 use stock_prices::FRAME;
 use stock_prices::Prices;
 use stock_prices::PricesReading;
@@ -23,9 +27,47 @@ fn refused(n: u8, length: usize) -> PricesReading
 {
     let prices = empty();
     PricesReading {
-        answer: Answer::Refused(n, length),
+        answer: Answer::Refused(n, length, Place::None),
         prices,
     }
+}
+
+// The layout of a body: the count, and ten slots of a code, four prices, a total and a time.
+const CELLS: [u8; 121] = [
+    2,
+    0, 0, 0, 0, 0, 0, 9, 9, 9, 9, 8, 12,
+    0, 0, 0, 0, 0, 0, 9, 9, 9, 9, 8, 12,
+    0, 0, 0, 0, 0, 0, 9, 9, 9, 9, 8, 12,
+    0, 0, 0, 0, 0, 0, 9, 9, 9, 9, 8, 12,
+    0, 0, 0, 0, 0, 0, 9, 9, 9, 9, 8, 12,
+    0, 0, 0, 0, 0, 0, 9, 9, 9, 9, 8, 12,
+    0, 0, 0, 0, 0, 0, 9, 9, 9, 9, 8, 12,
+    0, 0, 0, 0, 0, 0, 9, 9, 9, 9, 8, 12,
+    0, 0, 0, 0, 0, 0, 9, 9, 9, 9, 8, 12,
+    0, 0, 0, 0, 0, 0, 9, 9, 9, 9, 8, 12,
+];
+
+fn cells() -> [u8; 121]
+    ensures { λ r. ⌜ cellsOf r ≡ twelveCells ⌝ }
+{
+    CELLS
+}
+
+// What a body with a bad digit answers: 11, with its place.
+// It hands back no reading: a call that does would cost every reading the way through memory.
+fn bad_answer(body: &[u8]) -> Answer
+    ensures { λ r. ⌜ r ≡ digitAnswer twelveCells (now (body .entry)) ⌝ }
+{
+    let cells = cells();
+    bad_digit(&cells, body)
+}
+
+// An answer that has no prices.
+fn no_prices(answer: Answer) -> PricesReading
+    ensures { λ r. ⌜ r ≡ withoutPrices answer ⌝ }
+{
+    let prices = empty();
+    PricesReading { answer, prices }
 }
 
 // An accepted body.
@@ -54,13 +96,10 @@ fn good_byte(b: u8) -> bool
     b % 16 < 10
 }
 
-// The check that fails first, or 0: the slots' digits, their times, the count and the slots' fields.
-fn check_of(good: bool, timed: bool, n: usize, ruled: bool) -> u8
-    ensures { λ r. ⌜ r ≡ rowOf good timed n ruled ⌝ }
+// The check that fails first behind the digits, or 0: the slots' times, the count and the slots' fields.
+fn check_of(timed: bool, n: usize, ruled: bool) -> u8
+    ensures { λ r. ⌜ r ≡ rowOf timed n ruled ⌝ }
 {
-    if !good {
-        return 11;
-    }
     if !timed {
         return 12;
     }
@@ -82,12 +121,15 @@ pub fn read(body: &[u8], seq: u32) -> PricesReading
     }
     let b = body[0];
     if !good_byte(b) {
-        return refused(11, FRAME);
+        return no_prices(bad_answer(body));
     }
     let count = b / 16 * 10 + b % 16;
     let n = count as usize;
     let f = slots::slots_in(body, n);
-    let check = check_of(f.good, f.timed, n, f.ruled);
+    if !f.good {
+        return no_prices(bad_answer(body));
+    }
+    let check = check_of(f.timed, n, f.ruled);
     if check > 0 {
         return refused(check, FRAME);
     }

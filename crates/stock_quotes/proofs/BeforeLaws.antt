@@ -9,7 +9,8 @@ use borrow.Author.Tests.{eq-eqb}
 use Rattle.answers.specs.Answers.{named}
 use Rattle.answers.specs.declared.Answer.{Answer}
 use Rattle.answers.specs.declared.Answer.the-variants.{Refused}
-use Rattle.stock_frame.specs.Format.{around, ranged, valuesOf, bodyChecks, bodyAnswer}
+use Rattle.digits.specs.declared.halves.Place.the-variants.{None}
+use Rattle.stock_frame.specs.Format.{around, ranged, valuesOf, bodyChecks, bodyPlace, bodyAnswer}
 use Rattle.stock_frame.specs.Codec.{legal, frameOf}
 use Rattle.layout.specs.Cells.{size, fits}
 use Rattle.layout.specs.Checks.{firstFail}
@@ -44,20 +45,22 @@ module _ (seq : ℕ) (b : List ℕ) where
   read-as = reveal-read (pairCount (revealed (getD b revealPlace 0))) b
 
   -- the answer by check 10's test
+  abbrev number-by : Bool → ℕ
+  number-by t = cond (ranged six (length b)) (cond t (firstFail (drop 2 (bodyChecks six b))) 10) 9
+
   abbrev by : Bool → Answer
-  by t =
-      named (cond (ranged six (length b)) (cond t (firstFail (drop 2 (bodyChecks six b))) 10) 9) (record { format = 6; seq = seq; length = around + length b })
+  by t = named (number-by t) (record { format = 6; seq = seq; length = around + length b }) (bodyPlace six b (number-by t))
 
   reading-as : asBit0 (getD b revealPlace 0) ≡ true → bodyAnswer six seq b ≡ bodyAnswer sixBefore seq b
   unfolding bodyAnswer
   reading-as e =
       ap by (right-before (revealed (revealOf (valuesOf six b))) (ap asBit0 read-as ∙ e))
 
-  hidden-as : asBit0 (getD b revealPlace 0) ≡ false → ranged six (length b) ≡ true → bodyAnswer six seq b ≡ Refused 10 (around + length b)
+  hidden-as : asBit0 (getD b revealPlace 0) ≡ false → ranged six (length b) ≡ true → bodyAnswer six seq b ≡ Refused 10 (around + length b) None
   unfolding bodyAnswer
   hidden-as e h =
       ap by (right-hidden (revealed (revealOf (valuesOf six b))) (ap asBit0 read-as ∙ e))
-      ∙ ap (λ (t : Bool). named (cond t 10 9) (record { format = 6; seq = seq; length = around + length b })) h
+      ∙ ap (λ (t : Bool). named (cond t 10 9) (record { format = 6; seq = seq; length = around + length b }) (bodyPlace six b (cond t 10 9))) h
 
 -- ---- a message that shows its levels, with bit 0 clear
 module _ (m : Quote) (s : ShapedQuote m) (shown : m .levels ≡ Shown) (clear : m .reveal % 2 ≡ 0) where

@@ -10,7 +10,7 @@ use lib.Dec.{eqb}
 use borrow.Author.Tests.{eqb-true}
 use Rattle.amounts.specs.declared.Pair.{Pair}
 use Rattle.digits.proofs.Bools.{and-left, and-right}
-use Rattle.layout.specs.Cells.{size}
+use Rattle.layout.specs.Cells.{Cell, raw, digits, size}
 use Rattle.stock_quotes.specs.declared.Reveal.{Reveal}
 use Rattle.stock_quotes.specs.Reveal.{revealed, sideRoom, pairCount}
 use Rattle.stock_quotes.proofs.RevealLaws.{pairs-lt}
@@ -35,6 +35,17 @@ size-pairCells (suc n) = omega (arith, size-pairCells n)
 
 pub size-six : (n : ℕ) → size (sixCells n) ≡ 19 + 9 * n
 size-six n = omega (arith, size-pairCells n)
+
+-- pairs and then more
+pair-cells-append : (m n : ℕ) → pairCells (m + n) ≡ pairCells m ++ pairCells n
+unfolding pairCells
+pair-cells-append zero n = let e : zero + n ≡ n = omega arith in ap pairCells e
+pair-cells-append (suc m) n =
+    let e : suc m + n ≡ suc (m + n) = omega arith in
+    ap pairCells e ∙ ap (λ (cs : List Cell). digits 9 ∷ digits 8 ∷ cs) (pair-cells-append m n)
+
+pub six-cells-append : (m n : ℕ) → sixCells (m + n) ≡ sixCells m ++ pairCells n
+six-cells-append m n = ap (λ (cs : List Cell). raw ∷ raw ∷ raw ∷ raw ∷ raw ∷ raw ∷ digits 12 ∷ raw ∷ raw ∷ raw ∷ digits 8 ∷ cs) (pair-cells-append m n)
 
 pub length-dictated : (r : Reveal) (reveal : ℕ) → r ≡ revealed reveal → 19 + 9 * pairCount r ≡ bodyLength reveal
 length-dictated r reveal e = ap (λ (x : Reveal). 19 + 9 * pairCount x) e ∙ sym (size-six (pairCount (revealed reveal)))

@@ -5,6 +5,7 @@ use mathlib.Core.Bool.{Bool, true, false, _&&_}
 use mathlib.Core.List.{List, [], _∷_}
 use lib.ListN.{length, getD, drop}
 use lib.Dec.{leb}
+use Rattle.digits.specs.declared.halves.Place.the-variants.{None}
 use Rattle.answers.specs.declared.Answer.the-variants.{Refused}
 use Rattle.stock_frame.specs.Format.{Format, around, ranged, bodyAnswer}
 use Rattle.stock_frame.specs.Codec.{Codec, legal, frameOf}
@@ -54,7 +55,7 @@ pub record AsBefore : Type 0 where
   -- a body is answered as it was, but for bit 0 beside a level
   pub reading : (seq : ℕ) (b : List ℕ) → asBit0 (getD b revealPlace 0) ≡ true → bodyAnswer six seq b ≡ bodyAnswer sixBefore seq b
   -- that answers 10, at its place behind the format's range
-  pub levels-hidden : (seq : ℕ) (b : List ℕ) → asBit0 (getD b revealPlace 0) ≡ false → ranged six (length b) ≡ true → bodyAnswer six seq b ≡ Refused 10 (around + length b)
+  pub levels-hidden : (seq : ℕ) (b : List ℕ) → asBit0 (getD b revealPlace 0) ≡ false → ranged six (length b) ≡ true → bodyAnswer six seq b ≡ Refused 10 (around + length b) None
   -- so bit 0 clear changes nothing of a reading, and its message shows its levels
   pub clear-reading : (seq : ℕ) (b : List ℕ) → getD b revealPlace 0 % 2 ≡ 0 → bodyAnswer six seq b ≡ bodyAnswer sixBefore seq b
   pub clear-message : (seq : ℕ) (vs : List ℕ) → revealOf vs % 2 ≡ 0 → sixCodec .message seq vs .levels ≡ Shown

@@ -1,7 +1,7 @@
 -- The checks of a quote's body, and what each step of reading it answers.
 use Prim.Native.Nat.{ℕ, _+_, _-_, _*_, _≤_, _<_}
 use mathlib.Core.Path.{_≡_, sym, ap, ap₂, _∙_}
-use mathlib.Core.Bool.{true, false}
+use mathlib.Core.Bool.{true, false, cond}
 use mathlib.Core.List.{List, _++_}
 use native.Mathlib.Omega.{arith}
 use lib.ListN.{length, getD, take, drop}
@@ -13,17 +13,21 @@ use Rattle.amounts.specs.Amounts.{asQuantity}
 use Rattle.amounts.specs.declared.Pair.{Pair}
 use Rattle.amounts.specs.declared.Quantity.{Quantity}
 use Rattle.digits.proofs.Bools.{and-both}
-use Rattle.layout.specs.Cells.{goodCells, decode}
+use Rattle.layout.specs.Cells.{Cell, size, goodCells, decode}
+use Rattle.layout.specs.Places.{firstBad}
+use Rattle.layout.proofs.PlaceLaws.{firstBad-enough}
+use Rattle.answers.specs.declared.Answer.{Answer}
 use Rattle.layout.specs.Checks.{firstFail}
-use Rattle.stock_frame.specs.Format.{valuesOf, ranged, bodyChecks, around}
+use Rattle.stock_frame.specs.Format.{valuesOf, ranged, bodyChecks, bodyHalf, digitAnswer, around}
+use Rattle.stock_frame.proofs.BodyCheckLaws.{fails-digits, digit-answer}
 use Rattle.codes_times.specs.Times.{codeRight}
 use Rattle.layout.proofs.CellLaws.{length-decode}
 use Rattle.codes_times.proofs.RuleLaws.{six-bytes}
 use Rattle.stock_quotes.specs.declared.Reveal.{Reveal}
 use Rattle.stock_quotes.specs.Reveal.{revealed, levelsRight, pairCount}
-use Rattle.stock_quotes.specs.Quotes.{pairCells, sixCells, bodyLength, codeOf, timeOf, sixLevels, quoteTimed, sixTimed, six, noPair, pairsOf, pairsIn, padded, tradePart, bidPart, askPart, quoteReading}
-use Rattle.stock_quotes_read.specs.Steps.{refusedReading, acceptedReading, Dictated, SidesOf, FixedOf}
-use Rattle.stock_quotes.proofs.PairLaws.{length-pairsOf, length-pairCells, length-dictated, first-part, second-part, third-part}
+use Rattle.stock_quotes.specs.Quotes.{pairCells, sixCells, bodyLength, codeOf, timeOf, sixLevels, quoteTimed, sixTimed, six, noPair, pairsOf, pairsIn, padded, tradePart, bidPart, askPart, quoteOf, noQuote, quoteReading}
+use Rattle.stock_quotes_read.specs.Steps.{mostPairs, refusedReading, withoutQuote, acceptedReading, Dictated, SidesOf, FixedOf}
+use Rattle.stock_quotes.proofs.PairLaws.{length-pairsOf, length-pairCells, size-six, six-cells-append, length-dictated, first-part, second-part, third-part}
 use Rattle.stock_quotes.proofs.QuoteLaws.{quoteWith, reveal-read}
 use Rattle.stock_quotes_read.proofs.SideLaws.{pairs-append}
 use Rattle.stock_quotes_read.proofs.ReadLaws.{code-six, time-six, limit-six, status-six, total-six, pairs-six, reading-by}
@@ -92,8 +96,24 @@ module _ (seq : ℕ) (b : List ℕ) (r : Reveal) (d : Dictated b r) where
   good-is : goodCells (sixCells (pairCount (revealed (getD b 12 0)))) b ≡ goodCells (sixCells n) b
   good-is = ap (λ (k : ℕ). goodCells (sixCells k) b) count-is
 
-  pub digits-fail : goodCells (sixCells n) b ≡ false → refusedReading 11 (length b + 13) ≡ quoteReading seq b
-  digits-fail e = reading-by seq b 11 (rw (ranges, levels-hold, size-holds, good-is ∙ e))
+  -- the cells of pairs that there are not have no bytes
+  few : n ≤ mostPairs
+  few = omega (arith, d .few-trades, d .few-bids, d .few-asks)
+
+  same-place : firstBad (sixCells mostPairs) bodyHalf b ≡ firstBad (six .cells b) bodyHalf b
+  same-place =
+      let k : n + (mostPairs - n) ≡ mostPairs = omega (arith, few) in
+      ap (λ (m : ℕ). firstBad (sixCells m) bodyHalf b) (sym k)
+      ∙ ap (λ (cs : List Cell). firstBad cs bodyHalf b) (six-cells-append n (mostPairs - n))
+      ∙ firstBad-enough (sixCells n) (pairCells (mostPairs - n)) bodyHalf b (omega (arith, d .as-long, size-six n))
+      ∙ ap (λ (m : ℕ). firstBad (sixCells m) bodyHalf b) (sym count-is)
+
+  pub digits-fail : goodCells (sixCells n) b ≡ false → withoutQuote (digitAnswer (sixCells mostPairs) b) ≡ quoteReading seq b
+  unfolding quoteReading
+  digits-fail e =
+      let fails = fails-digits six b ranges levels-hold size-holds (good-is ∙ e) in
+      ap₂ (λ (a : Answer) (k : ℕ). record { answer = a; quote = cond (eqb k 0) (quoteOf seq (valuesOf six b)) noQuote })
+      (digit-answer six seq b (sixCells mostPairs) same-place (omega (arith, high)) fails) (sym fails)
 
   module _ (g : goodCells (sixCells n) b ≡ true) where
     pub time-fails : sixTimed (valuesOf six b) ≡ false → refusedReading 12 (length b + 13) ≡ quoteReading seq b

@@ -21,7 +21,7 @@ use Rattle.digits.proofs.Values.{even-field}
 use Rattle.layout.specs.Cells.{goodCells, decode}
 use Rattle.layout.specs.Checks.{firstFail}
 use Rattle.answers.specs.Answers.{named}
-use Rattle.stock_frame.specs.Format.{valuesOf, bodyChecks, bodyAnswer, around}
+use Rattle.stock_frame.specs.Format.{valuesOf, bodyChecks, bodyPlace, bodyAnswer, around}
 use Rattle.answers.specs.declared.Frame.{Frame}
 use Rattle.digits.proofs.TestLaws.{holds}
 use Rattle.stock_quotes.specs.declared.QuoteReading.{QuoteReading}
@@ -81,14 +81,14 @@ module _ (seq : ℕ) (b : List ℕ) where
   frame = record { format = 6; seq = seq; length = length b + 13 }
 
   abbrev readingOf : ℕ → QuoteReading
-  readingOf k = record { answer = named k frame; quote = cond (eqb k 0) (quoteOf seq (valuesOf six b)) noQuote }
+  readingOf k = record { answer = named k frame (bodyPlace six b k); quote = cond (eqb k 0) (quoteOf seq (valuesOf six b)) noQuote }
 
   pub reading-by : (k : ℕ) → firstFail (bodyChecks six b) ≡ k → readingOf k ≡ quoteReading seq b
   unfolding quoteReading bodyAnswer
   reading-by k e =
       let w : length b + 13 ≡ around + length b = omega arith in
-      ap (λ (l : ℕ). record { answer = named k (record { format = 6; seq = seq; length = l }); quote = cond (eqb k 0) (quoteOf seq (valuesOf six b)) noQuote }) w
-      ∙ ap (λ (x : ℕ). record { answer = named x (record { format = 6; seq = seq; length = around + length b }); quote = cond (eqb x 0) (quoteOf seq (valuesOf six b)) noQuote }) (sym e)
+      ap (λ (l : ℕ). record { answer = named k (record { format = 6; seq = seq; length = l }) (bodyPlace six b k); quote = cond (eqb k 0) (quoteOf seq (valuesOf six b)) noQuote }) w
+      ∙ ap (λ (x : ℕ). record { answer = named x (record { format = 6; seq = seq; length = around + length b }) (bodyPlace six b x); quote = cond (eqb x 0) (quoteOf seq (valuesOf six b)) noQuote }) (sym e)
 
 -- ---- the packed fields, one after the other
 pub dictated : (b : List ℕ) (r : Reveal) → r ≡ revealed (getD b 12 0) → levelsRight r ≡ true → length b ≡ bodyLength (getD b 12 0) → Dictated b r

@@ -8,6 +8,8 @@ use Rattle.digits.specs.Packed.{good, goodField, value}
 use Rattle.amounts.specs.Amounts.{asQuantity}
 use Rattle.amounts.specs.declared.Pair.{Pair}
 use Rattle.amounts.specs.declared.Quantity.{Quantity}
+use Rattle.digits.specs.declared.halves.Place.the-variants.{None}
+use Rattle.answers.specs.declared.Answer.{Answer}
 use Rattle.answers.specs.declared.Answer.the-variants.{Accepted, Refused}
 use Rattle.stock_quotes.specs.declared.QuoteReading.{QuoteReading}
 use Rattle.stock_quotes.specs.declared.Reveal.{Reveal}
@@ -16,7 +18,15 @@ use Rattle.stock_quotes.specs.Quotes.{noPair, noQuote, pairsIn, padded, revealP
 
 -- a refusal with its number and the whole frame's length
 abbrev pub refusedReading : ℕ → ℕ → QuoteReading
-refusedReading number n = record { answer = Refused number n; quote = noQuote }
+refusedReading number n = record { answer = Refused number n None; quote = noQuote }
+
+-- the most pairs that a reveal byte can show: a trade, and five levels of each side
+abbrev pub mostPairs : ℕ
+mostPairs = 11
+
+-- an answer that has no quote
+abbrev pub withoutQuote : Answer → QuoteReading
+withoutQuote a = record { answer = a; quote = noQuote }
 
 -- an accepted body with what its packed fields hold
 abbrev pub acceptedReading : ℕ → List ℕ → ℕ → Quantity → Pair → List Pair → List Pair → QuoteReading

@@ -4,15 +4,19 @@ ghost use mathlib.Core.Bool.{true};
 ghost use Prim.Native.Nat.{_+_, _*_, _≤_};
 ghost use lib.ListN.{length, drop};
 ghost use Rattle.layout.specs.Cells.{goodCells};
+ghost use Rattle.layout.specs.Places.{cellsOf};
+ghost use Rattle.stock_frame.specs.Format.{digitAnswer};
 ghost use Rattle.stock_quotes.specs.Reveal.{sideRoom, pairCount};
-ghost use Rattle.stock_quotes.specs.Quotes.{quoteReading, pairCells, pairsIn, padded};
-ghost use Rattle.stock_quotes_read.specs.Steps.{refusedReading, acceptedReading, Dictated, SidesOf, fixedGood, FixedOf};
+ghost use Rattle.stock_quotes.specs.Quotes.{quoteReading, pairCells, sixCells, pairsIn, padded};
+ghost use Rattle.stock_quotes_read.specs.Steps.{mostPairs, refusedReading, withoutQuote, acceptedReading, Dictated, SidesOf, fixedGood, FixedOf};
 use amounts::Pair;
 use amounts::PairField;
 use amounts::Quantity;
 use amounts::QuantityField;
 use answers::Answer;
 use answers::Frame;
+use digits::halves::Place;
+use stock_frame::places::bad_digit;
 use stock_quotes::Levels;
 use stock_quotes::Quote;
 use stock_quotes::QuoteReading;
@@ -48,9 +52,38 @@ fn refused(number: u8, n: usize) -> QuoteReading
 {
     let quote = stock_quotes::empty();
     QuoteReading {
-        answer: Answer::Refused(number, n),
+        answer: Answer::Refused(number, n, Place::None),
         quote,
     }
+}
+
+// The layout of a body: a code, a time, three bytes, a total, and as many pairs as there can be.
+const CELLS: [u8; 33] = [
+    0, 0, 0, 0, 0, 0, 12, 0, 0, 0, 8,
+    9, 8, 9, 8, 9, 8, 9, 8, 9, 8, 9, 8, 9, 8, 9, 8, 9, 8, 9, 8, 9, 8,
+];
+
+fn cells() -> [u8; 33]
+    ensures { λ r. ⌜ cellsOf r ≡ sixCells mostPairs ⌝ }
+{
+    CELLS
+}
+
+// What a body with a bad digit answers: 11, with its place.
+// It hands back no reading: a call that does would cost every reading the way through memory.
+fn bad_answer(body: &[u8]) -> Answer
+    ensures { λ r. ⌜ r ≡ digitAnswer (sixCells mostPairs) (now (body .entry)) ⌝ }
+{
+    let cells = cells();
+    bad_digit(&cells, body)
+}
+
+// An answer that has no quote.
+fn no_quote(answer: Answer) -> QuoteReading
+    ensures { λ r. ⌜ r ≡ withoutQuote answer ⌝ }
+{
+    let quote = stock_quotes::empty();
+    QuoteReading { answer, quote }
 }
 
 // The pairs of one side, from a place on.
@@ -164,11 +197,11 @@ fn fields(body: &[u8], seq: u32, shown: Reveal) -> QuoteReading
 {
     let p = fixed_fields(body);
     if !p.good {
-        return refused(11, body.len() + 13);
+        return no_quote(bad_answer(body));
     }
     let sides = sides_at(body, shown);
     if !sides.good {
-        return refused(11, body.len() + 13);
+        return no_quote(bad_answer(body));
     }
     if !stock_quotes::timed(&body[..6], p.first, p.last) {
         return refused(12, body.len() + 13);

@@ -4,7 +4,7 @@ use Rattle.stock_quotes.specs.Reveal.{levelsRight}
 use Rattle.stock_quotes.specs.Quotes.{pairCells}
 use Rattle.stock_prices.specs.Prices.{slotsCells}
 use Rattle.stock_reading.specs.Reading.{formatOf, checks, answerOf, messageBy}
-use Rattle.stock_reading.specs.Edges.{Edges, LevelEdges}
+use Rattle.stock_reading.specs.Edges.{Edges, LevelEdges, PlaceEdges}
 
 pub edges-hold : Edges
 unfolding formatOf checks answerOf messageBy levelsRight pairCells slotsCells
@@ -40,4 +40,18 @@ level-edges-hold = record {
   reveal-A3-longer = refl;
   reveal-11 = refl;
   reveal-03 = refl;
+}
+
+pub place-edges-hold : PlaceEdges
+unfolding formatOf checks answerOf levelsRight pairCells slotsCells
+place-edges-hold = record {
+  length-high = refl;
+  length-last = refl;
+  length-two = refl;
+  length-range = refl;
+  head-first = refl;
+  head-last = refl;
+  category-low = refl;
+  halt-digit = refl;
+  price-lead = refl;
 }

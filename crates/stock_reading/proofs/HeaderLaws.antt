@@ -1,6 +1,6 @@
 -- The checks on a header, for the formats of the list: 7, 8, or the body of the format that its six digits name.
 use Prim.Native.Nat.{ℕ, _+_, _-_, _/_, _%_, _<_}
-use mathlib.Core.Path.{_≡_, refl, sym, ap, _∙_}
+use mathlib.Core.Path.{_≡_, refl, sym, ap, ap₂, _∙_}
 use mathlib.Core.Bool.{Bool, true, false, _&&_}
 use mathlib.Core.List.{List, [], _∷_, _++_}
 use native.Mathlib.Omega.{arith}
@@ -12,7 +12,9 @@ use Rattle.digits.proofs.TestLaws.{holds}
 use Rattle.layout.specs.Checks.{Check, must, firstFail}
 use Rattle.answers.specs.Answers.{named}
 use Rattle.stock_frame.specs.Outline.{format, version}
-use Rattle.stock_frame.specs.Format.{Format, bodyChecks, bodyAnswer, around}
+use Rattle.digits.specs.declared.halves.Place.{Place}
+use Rattle.digits.specs.declared.halves.Place.the-variants.{None}
+use Rattle.stock_frame.specs.Format.{Format, bodyChecks, bodyPlace, bodyAnswer, around}
 use Rattle.answers.specs.declared.Frame.{Frame}
 use Rattle.answers.specs.declared.Answer.the-variants.{Refused}
 use Rattle.layout.proofs.CheckLaws.{check-holds, checks-after}
@@ -90,11 +92,14 @@ module _ (kind seq : ℕ) (b : List ℕ) where
   abbrev checks : List Check
   checks = bodyChecks (formatOf (kind / 100 % 100)) b
 
+  abbrev place : ℕ → Place
+  place n = bodyPlace (formatOf (kind / 100 % 100)) b n
+
   -- they name no format under business 01
-  pub kind-seven : NoneIs (kind / 100) formats → Refused 7 (around + length b) ≡ afterOutline kind seq b
+  pub kind-seven : NoneIs (kind / 100) formats → Refused 7 (around + length b) None ≡ afterOutline kind seq b
   unfolding afterOutline
   kind-seven unnamed =
-      sym (ap (λ (n : ℕ). named n frame) (header-seven (kind / 10000) (kind / 100 % 100) (kind % 100) checks (go (eqb (kind / 10000) 1) refl)))
+      sym (ap (λ (n : ℕ). named n frame (place n)) (header-seven (kind / 10000) (kind / 100 % 100) (kind % 100) checks (go (eqb (kind / 10000) 1) refl)))
     where
       go : (t : Bool) → eqb (kind / 10000) 1 ≡ t → (t && isFormat (kind / 100 % 100)) ≡ false
       go true e =
@@ -107,7 +112,7 @@ module _ (kind seq : ℕ) (b : List ℕ) where
     says = named-format F listed
 
     -- they name a format, but not its version
-    pub kind-eight : kind / 100 ≡ 100 + F .number → (kind ≡ kindOf F → ⊥) → Refused 8 (around + length b) ≡ afterOutline kind seq b
+    pub kind-eight : kind / 100 ≡ 100 + F .number → (kind ≡ kindOf F → ⊥) → Refused 8 (around + length b) None ≡ afterOutline kind seq b
     unfolding afterOutline
     kind-eight is other =
         let small = says .number-fits in
@@ -115,7 +120,7 @@ module _ (kind seq : ℕ) (b : List ℕ) where
         let fm : kind / 100 % 100 ≡ F .number = omega arith in
         let ve : kind % 100 ≡ formatOf (kind / 100 % 100) .version → ⊥ =
         λ e. let v = e ∙ ap (λ (n : ℕ). formatOf n .version) fm ∙ same-version F listed in other (omega arith) in
-        sym (ap (λ (n : ℕ). named n frame)
+        sym (ap (λ (n : ℕ). named n frame (place n))
         (header-eight (kind / 10000) (kind / 100 % 100) (kind % 100) checks
         (and-both (eq-eqb (kind / 10000) 1 bu) (ap isFormat fm ∙ says .is-one)) (ne-eqb (kind % 100) (formatOf (kind / 100 % 100) .version) ve)))
 
@@ -128,6 +133,8 @@ module _ (kind seq : ℕ) (b : List ℕ) where
         let bu : kind / 10000 ≡ 1 = omega arith in
         let fm : kind / 100 % 100 ≡ F .number = omega arith in
         let ve : kind % 100 ≡ F .version = omega arith in
-        ap (λ (n : ℕ). named n (record { format = F .number; seq = seq; length = around + length b }))
-        (sym (header-known F listed b))
-        ∙ (λ i. named (firstFail (kindChecks (sym bu i) (sym fm i) (sym ve i) ++ bodyChecks (formatOf (sym fm i)) b)) (record { format = sym fm i; seq = seq; length = around + length b }))
+        ap₂ (λ (n : ℕ) (G : Format). named n (record { format = F .number; seq = seq; length = around + length b }) (bodyPlace G b n))
+        (sym (header-known F listed b)) (sym (same-format F listed))
+        ∙ (λ i.
+          let n = firstFail (kindChecks (sym bu i) (sym fm i) (sym ve i) ++ bodyChecks (formatOf (sym fm i)) b) in
+          named n (record { format = sym fm i; seq = seq; length = around + length b }) (bodyPlace (formatOf (sym fm i)) b n))

@@ -10,6 +10,7 @@ use borrow.Author.Tests.{eqb-false, leb-true, leb-false}
 use Rattle.words.specs.Xor.{xorOf}
 use Rattle.layout.specs.Cells.{goodCells}
 use Rattle.layout.specs.Checks.{Check, must, firstFail}
+use Rattle.digits.specs.declared.halves.Place.{Place}
 use Rattle.answers.specs.Answers.{named, answerNumber, answerLength}
 use Rattle.stock_frame.specs.Outline.{lengthOf, own, body, inner, business, format, version, sequence, checkByte, ended, lengthRight, kindCells}
 use Rattle.stock_frame.specs.Format.{bodyChecks}
@@ -17,17 +18,17 @@ use Rattle.stock_frame.proofs.OutlineLaws.{right-length}
 use Rattle.answers.specs.declared.Frame.{Frame}
 use Rattle.answers.specs.declared.Answer.the-variants.{Accepted, NoFrame, Refused}
 use Rattle.layout.proofs.CheckLaws.{pass, check-passed, silent, silent-answers}
-use Rattle.stock_reading.specs.Reading.{formatOf, kindChecks, checks, answerOf}
+use Rattle.stock_reading.specs.Reading.{formatOf, kindChecks, checks, placeOf, answerOf}
 use Rattle.stock_reading.proofs.Trips.{answer-number}
 
 -- beside a number that is none of 1 to 5 stands the frame's length
-length-named : (n : ℕ) (f : Frame) → (1 ≤ n → n ≤ 5 → ⊥) → answerLength (named n f) ≡ f .length
-length-named n f h = go (eqb n 0) (leb n 5) refl refl
+length-named : (n : ℕ) (f : Frame) (p : Place) → (1 ≤ n → n ≤ 5 → ⊥) → answerLength (named n f p) ≡ f .length
+length-named n f p h = go (eqb n 0) (leb n 5) refl refl
   where
-    go : (x y : Bool) → eqb n 0 ≡ x → leb n 5 ≡ y → answerLength (cond x (Accepted f) (cond y (NoFrame n) (Refused n (f .length)))) ≡ f .length
-    go true y p q = refl
-    go false true p q = absurd (h (omega (arith, eqb-false n 0 p)) (leb-true n 5 q))
-    go false false p q = refl
+    go : (x y : Bool) → eqb n 0 ≡ x → leb n 5 ≡ y → answerLength (cond x (Accepted f) (cond y (NoFrame n p) (Refused n (f .length) p))) ≡ f .length
+    go true y e q = refl
+    go false true e q = absurd (h (omega (arith, eqb-false n 0 e)) (leb-true n 5 q))
+    go false false e q = refl
 
 module _ (t : List ℕ) where
   -- the rules' table from its first five checks on
@@ -67,7 +68,7 @@ module _ (t : List ℕ) where
       let whole = check-passed n 3 (lengthRight t) from-whole (right .1) (no 3 (omega arith) (omega arith)) in
       let ends = check-passed n 2 (leb (lengthOf t) (length t)) from-end (whole .1) (no 2 (omega arith) (omega arith)) in
       let size : answerLength (answerOf t) ≡ lengthOf t =
-      length-named (firstFail (checks t)) (record { format = format (own t); seq = sequence (own t); length = lengthOf t })
+      length-named (firstFail (checks t)) (record { format = format (own t); seq = sequence (own t); length = lengthOf t }) (placeOf (firstFail (checks t)) t)
       (λ p q. h (omega (arith, p, answer-number t)) (omega (arith, q, answer-number t))) in
       (omega (arith, size, right-length t (whole .0) .0), omega (arith, size, leb-true (lengthOf t) (length t) (ends .0)))
 

@@ -3,6 +3,7 @@ pub mod HeaderLaws
 pub mod ReadingLaws
 pub mod PlaceLaws
 pub mod Trips
+pub mod PlaceTheorems
 pub mod EdgesHold
 pub mod MoreBytes
 pub mod Lengths

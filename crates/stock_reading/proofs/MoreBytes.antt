@@ -11,6 +11,7 @@ use Rattle.layout.specs.Checks.{firstFail}
 use Rattle.stock_frame.specs.Outline.{lengthOf, own, body, business, format, version, sequence, outlineOf}
 use Rattle.stock_frame.specs.Format.{valuesOf}
 use Rattle.stock_frame.specs.Codec.{Codec}
+use Rattle.digits.specs.declared.halves.Place.the-variants.{None}
 use Rattle.answers.specs.declared.Answer.the-variants.{NoFrame}
 use Rattle.stock_frame.specs.declared.head.Head.{Head}
 use Rattle.stock_frame.specs.declared.head.Outline.{Outline}
@@ -22,9 +23,9 @@ use Rattle.stock_reading.specs.Steps.{afterOutline}
 use Rattle.stock_reading.proofs.ReadingLaws.{answer-not, message-not, answer-outlined}
 use Rattle.stock_reading.proofs.Trips.{answer-number}
 
-module _ (t u : List ℕ) (settled : answerOf t ≡ NoFrame 2 → ⊥) where
+module _ (t u : List ℕ) (settled : answerOf t ≡ NoFrame 2 None → ⊥) where
   same-outline : outlineOf (t ++ u) ≡ outlineOf t
-  same-outline = outline-more t u (λ q. settled (sym (answer-not t (NoFrame 2) q)))
+  same-outline = outline-more t u (λ q. settled (sym (answer-not t (NoFrame 2 None) q)))
 
   -- the same frame stands at the front
   same-own : (h : Head) → outlineOf t ≡ Whole h → own (t ++ u) ≡ own t

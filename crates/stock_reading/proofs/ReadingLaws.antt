@@ -1,5 +1,5 @@
 -- A reading by its steps: the outline, the header's six digits, and the message of the format that is asked for.
-use Prim.Native.Nat.{ℕ, _+_, _-_, _*_, _/_, _%_, _^_, _<_}
+use Prim.Native.Nat.{ℕ, suc, _+_, _-_, _*_, _/_, _%_, _^_, _≤_, _<_}
 use mathlib.Core.Path.{_≡_, refl, sym, ap, ap₂, _∙_}
 use mathlib.Core.Bool.{Bool, true, false, cond, _&&_, and-true}
 use mathlib.Core.List.{List, [], _∷_, _++_}
@@ -9,22 +9,26 @@ use lib.Dec.{eqb, leb, ltb}
 use borrow.Author.Tests.{eq-eqb, ne-eqb, eqb-true, ltb-true}
 use Rattle.digits.proofs.TestLaws.{holds}
 use Rattle.layout.specs.Cells.{fits}
+use Rattle.layout.specs.Places.{firstBad}
 use Rattle.layout.specs.Checks.{Check, firstFail}
+use Rattle.digits.specs.declared.halves.Place.{Place}
+use Rattle.digits.specs.declared.halves.Place.the-variants.{None}
 use Rattle.answers.specs.Answers.{named}
-use Rattle.stock_frame.specs.Outline.{lengthOf, own, body, business, format, version, sequence, outlineChecks, kindCells, kindValues, outlineOf}
-use Rattle.stock_frame.specs.Format.{valuesOf, bodyChecks}
+use Rattle.stock_frame.specs.Outline.{lengthBytes, lengthCells, lengthOf, own, body, business, format, version, sequence, outlineChecks, kindCells, kindValues, outlinePlace, outlineOf}
+use Rattle.stock_frame.specs.Format.{valuesOf, bodyChecks, bodyHalf, bodyPlace}
 use Rattle.stock_frame.specs.Codec.{Codec}
 use Rattle.answers.specs.declared.Frame.{Frame}
 use Rattle.answers.specs.declared.Answer.{Answer}
-use Rattle.answers.specs.declared.Answer.the-variants.{Refused}
+use Rattle.answers.specs.declared.Answer.the-variants.{NoFrame, Refused}
 use Rattle.stock_frame.specs.declared.head.Outline.the-variants.{Not}
 use Rattle.layout.proofs.CellLaws.{fits-decode}
-use Rattle.layout.proofs.CheckLaws.{firstFail-append}
+use Rattle.layout.proofs.CheckLaws.{firstFail-append, silent-answers}
+use Rattle.stock_frame.proofs.FigureLaws.{fails-at-most}
 use Rattle.stock_frame.specs.Reads.{Outlined}
 use Rattle.stock_frame.proofs.FormatsLaws.{Listed}
 use Rattle.stock_frame.proofs.OutlineLaws.{outlined-passes, length-own, least-length, length-body}
 use Rattle.stock_frame.proofs.PartLaws.{not-outlined}
-use Rattle.stock_reading.specs.Reading.{formats, formatOf, kindChecks, checks, answerOf, messageBy}
+use Rattle.stock_reading.specs.Reading.{formats, formatOf, kindChecks, checks, placeOf, answerOf, messageBy}
 use Rattle.stock_reading.specs.Steps.{afterOutline}
 use Rattle.stock_reading.proofs.HeaderLaws.{same-version, header-known, header-holds}
 
@@ -63,6 +67,17 @@ module _ (t : List ℕ) (o : Outlined t) where
   abbrev after : List Check
   after = kindChecks (business f) (format f) (version f) ++ bodyChecks (formatOf (format f)) (body f)
 
+  -- none of them answers 3 or 6, so the place is the body's
+  after-place : (n : ℕ) → firstFail after ≡ n → bodyPlace (formatOf (format f)) (body f) n ≡ placeOf n t
+  after-place n e =
+      let three = ne-eqb n 3 (λ z. zero-not (silent-answers 3 after refl (e ∙ z))) in
+      let six = ne-eqb n 6 (λ z. zero-not (silent-answers 6 after refl (e ∙ z))) in
+      sym (ap₂ (λ (x y : Bool). cond (eqb n 11) (firstBad (formatOf (format f) .cells (body f)) bodyHalf (body f))
+      (cond x (firstBad lengthCells 2 (lengthBytes t)) (cond y (firstBad kindCells 6 (drop 3 f)) None))) three six)
+    where
+      zero-not : {k : ℕ} → suc k ≡ 0 → ⊥
+      zero-not z = absurd (omega arith)
+
   pub checks-outlined : firstFail (checks t) ≡ firstFail after
   unfolding checks
   checks-outlined =
@@ -72,15 +87,17 @@ module _ (t : List ℕ) (o : Outlined t) where
   pub answer-outlined : afterOutline kind (sequence f) (body f) ≡ answerOf t
   unfolding afterOutline answerOf
   answer-outlined =
-      (λ i. named (firstFail (kindChecks (kind-business i) (kind-format i) (kind-version i) ++ bodyChecks (formatOf (kind-format i)) (body f)))
-      (record { format = kind-format i; seq = sequence f; length = length-body t o i }))
-      ∙ ap (λ (n : ℕ). named n (record { format = format f; seq = sequence f; length = lengthOf t })) (sym checks-outlined)
+      (λ i.
+        let n = firstFail (kindChecks (kind-business i) (kind-format i) (kind-version i) ++ bodyChecks (formatOf (kind-format i)) (body f)) in
+        named n (record { format = kind-format i; seq = sequence f; length = length-body t o i }) (bodyPlace (formatOf (kind-format i)) (body f) n))
+      ∙ ap (named (firstFail after) (record { format = format f; seq = sequence f; length = lengthOf t })) (after-place (firstFail after) refl)
+      ∙ ap (λ (n : ℕ). named n (record { format = format f; seq = sequence f; length = lengthOf t }) (placeOf n t)) (sym checks-outlined)
 
 -- ---- no whole outline
 -- a refusal says nothing of the frame but its length
-named-refusal : (n : ℕ) (f g : Frame) → (n ≡ 0 → ⊥) → f .length ≡ g .length → named n f ≡ named n g
-named-refusal n f g h e =
-    rw (ne-eqb n 0 h) (ap (λ (l : ℕ). cond (leb n 5) (Rattle.answers.specs.declared.Answer.the-variants.NoFrame n) (Refused n l)) e)
+named-refusal : (n : ℕ) (f g : Frame) (p : Place) → (n ≡ 0 → ⊥) → f .length ≡ g .length → named n f p ≡ named n g p
+named-refusal n f g p h e =
+    rw (ne-eqb n 0 h) (ap (λ (l : ℕ). cond (leb n 5) (NoFrame n p) (Refused n l p)) e)
 
 module _ (t : List ℕ) (a : Answer) (e : outlineOf t ≡ Not a) where
   checks-not : firstFail (checks t) ≡ firstFail (outlineChecks t)
@@ -90,13 +107,22 @@ module _ (t : List ℕ) (a : Answer) (e : outlineOf t ≡ Not a) where
       ∙ ap (λ (b : Bool). cond b (firstFail (kindChecks (business (own t)) (format (own t)) (version (own t)) ++ bodyChecks (formatOf (format (own t))) (body (own t)))) (firstFail (outlineChecks t)))
       (ne-eqb (firstFail (outlineChecks t)) 0 (not-outlined t a e .0))
 
+  -- none of the outline's checks answers 11
+  outline-place : outlinePlace (firstFail (outlineChecks t)) t ≡ placeOf (firstFail (outlineChecks t)) t
+  outline-place =
+      let n = firstFail (outlineChecks t) in
+      let few : n ≤ 6 = fails-at-most 6 (outlineChecks t) refl in
+      sym (ap (λ (x : Bool). cond x (firstBad (formatOf (format (own t)) .cells (body (own t))) bodyHalf (body (own t))) (outlinePlace n t)) (ne-eqb n 11 (λ z. omega (arith, few, z))))
+
   pub answer-not : a ≡ answerOf t
   unfolding answerOf
   answer-not =
+      let n = firstFail (outlineChecks t) in
       not-outlined t a e .1
-      ∙ named-refusal (firstFail (outlineChecks t)) (record { format = 0; seq = 0; length = lengthOf t }) (record { format = format (own t); seq = sequence (own t); length = lengthOf t })
-      (not-outlined t a e .0) refl
-      ∙ ap (λ (n : ℕ). named n (record { format = format (own t); seq = sequence (own t); length = lengthOf t })) (sym checks-not)
+      ∙ named-refusal n (record { format = 0; seq = 0; length = lengthOf t }) (record { format = format (own t); seq = sequence (own t); length = lengthOf t })
+      (outlinePlace n t) (not-outlined t a e .0) refl
+      ∙ ap (named n (record { format = format (own t); seq = sequence (own t); length = lengthOf t })) outline-place
+      ∙ ap (λ (k : ℕ). named k (record { format = format (own t); seq = sequence (own t); length = lengthOf t }) (placeOf k t)) (sym checks-not)
 
   pub message-not : {M : Type 0} (C : Codec M) (none : M) → none ≡ messageBy C none t
   unfolding messageBy

@@ -8,6 +8,7 @@ use lib.ListN.{length, drop}
 use lib.Dec.{eqb, leb}
 use borrow.Author.Tests.{eqb-true, le-leb}
 use Rattle.layout.specs.Checks.{firstFail}
+use Rattle.digits.specs.declared.halves.Place.{Place}
 use Rattle.answers.specs.Answers.{named, answerNumber, answerValues}
 use Rattle.stock_frame.specs.Outline.{lengthOf, own, body, business, format, version, sequence, outlineChecks, outlineOf}
 use Rattle.stock_frame.specs.Format.{valuesOf, bodyChecks}
@@ -35,7 +36,7 @@ use Rattle.stock_prices.specs.Prices.{twelveCodec, noPrices, ShapedPrices}
 use Rattle.stock_prices.proofs.PriceLaws.{prices-lawful}
 use Rattle.stock_halts.specs.Halts.{nineteenCodec, noHalt, ShapedHalt}
 use Rattle.stock_halts.proofs.HaltLaws.{halts-lawful}
-use Rattle.stock_reading.specs.Reading.{formats, formatOf, isFormat, kindChecks, checks, answerOf, messageBy}
+use Rattle.stock_reading.specs.Reading.{formats, formatOf, isFormat, kindChecks, checks, placeOf, answerOf, messageBy}
 use Rattle.stock_reading.specs.Trips.{AnswerSays, Trips}
 use Rattle.stock_reading.proofs.HeaderLaws.{five-listed, six-listed, twelve-listed, nineteen-listed, same-version, header-holds}
 use Rattle.stock_reading.proofs.ReadingLaws.{checks-body, message-hit, checks-outlined, answer-not}
@@ -43,12 +44,12 @@ use Rattle.stock_reading.proofs.ReadingLaws.{checks-body, message-hit, 
 -- ---- an answer's number is the first check that fails, and only acceptance has none
 pub answer-number : (t : List ℕ) → answerNumber (answerOf t) ≡ firstFail (checks t)
 unfolding answerOf
-answer-number t = number-named (firstFail (checks t)) (record { format = format (own t); seq = sequence (own t); length = lengthOf t })
+answer-number t = number-named (firstFail (checks t)) (record { format = format (own t); seq = sequence (own t); length = lengthOf t }) (placeOf (firstFail (checks t)) t)
 
-named-accepted : (n : ℕ) (f g : Frame) → named n f ≡ Accepted g → f ≡ g
-named-accepted n f g e = go (eqb n 0) (leb n 5) e
+named-accepted : (n : ℕ) (f g : Frame) (p : Place) → named n f p ≡ Accepted g → f ≡ g
+named-accepted n f g p e = go (eqb n 0) (leb n 5) e
   where
-    go : (t u : Bool) → cond t (Accepted f) (cond u (NoFrame n) (Refused n (f .length))) ≡ Accepted g → f ≡ g
+    go : (t u : Bool) → cond t (Accepted f) (cond u (NoFrame n p) (Refused n (f .length) p)) ≡ Accepted g → f ≡ g
     go true u q = cc
     go false true q = cc
     go false false q = cc
@@ -84,11 +85,12 @@ checks-at-most : (t : List ℕ) → firstFail (checks t) ≤ 13
 unfolding checks
 checks-at-most t = fails-at-most 13 (checks t) refl
 
-answer-values : (t : List ℕ) → answerValues (answerOf t) ≡ beside (answerNumber (answerOf t)) (format (own t) ∷ sequence (own t) ∷ lengthOf t ∷ []) (lengthOf t)
+answer-values : (t : List ℕ) → answerValues (answerOf t)
+    ≡ beside (answerNumber (answerOf t)) (format (own t) ∷ sequence (own t) ∷ lengthOf t ∷ []) (lengthOf t) (placeOf (answerNumber (answerOf t)) t)
 unfolding answerOf
 answer-values t =
-    values-named (firstFail (checks t)) (record { format = format (own t); seq = sequence (own t); length = lengthOf t })
-    ∙ ap (λ (n : ℕ). beside n (format (own t) ∷ sequence (own t) ∷ lengthOf t ∷ []) (lengthOf t)) (sym (answer-number t))
+    values-named (firstFail (checks t)) (record { format = format (own t); seq = sequence (own t); length = lengthOf t }) (placeOf (firstFail (checks t)) t)
+    ∙ ap (λ (n : ℕ). beside n (format (own t) ∷ sequence (own t) ∷ lengthOf t ∷ []) (lengthOf t) (placeOf n t)) (sym (answer-number t))
 
 pub answer-says : (t : List ℕ) → AnswerSays t
 answer-says t = record {
@@ -119,7 +121,7 @@ module _ {M : Type 0} (C : Codec M) (Shaped : M → Type 0) (law : Lawful C Shap
   reads-accepted t m rd =
       let zero = checks-body C none listed t (rd .outlined) (rd .is-business) (rd .is-format) (rd .is-version) ∙ bodied-passes (C .form) (body (own t)) (rd .bodied) in
       let hit = message-hit C none listed t (rd .outlined) (rd .is-business) (rd .is-format) (rd .is-version) in (
-        (λ i. named (zero i) (record { format = rd .is-format i; seq = sequence (own t); length = lengthOf t })),
+        (λ i. named (zero i) (record { format = rd .is-format i; seq = sequence (own t); length = lengthOf t }) (placeOf (zero i) t)),
         sym hit ∙ ap (λ (n : ℕ). cond (eqb n 0) (C .message (sequence (own t)) (valuesOf (C .form) (body (own t)))) none) (bodied-passes (C .form) (body (own t)) (rd .bodied)) ∙ sym (rd .meant),
       )
 
@@ -129,7 +131,7 @@ module _ {M : Type 0} (C : Codec M) (Shaped : M → Type 0) (law : Lawful C Shap
       let z : firstFail (checks t) ≡ 0 = sym (answer-number t) ∙ ap answerNumber e in
       let o = checks-apart t z in
       let fm : format (own t) ≡ C .form .number =
-      ap (λ (x : Frame). x .format) (named-accepted (firstFail (checks t)) (record { format = format (own t); seq = sequence (own t); length = lengthOf t }) f e) ∙ n in
+      ap (λ (x : Frame). x .format) (named-accepted (firstFail (checks t)) (record { format = format (own t); seq = sequence (own t); length = lengthOf t }) f (placeOf (firstFail (checks t)) t) e) ∙ n in
       let h = header-accepted t z in
       let bu = h .0 in
       let ve = h .2 ∙ ap (λ (x : ℕ). formatOf x .version) fm ∙ same-version (C .form) listed in

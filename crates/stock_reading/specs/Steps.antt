@@ -7,7 +7,7 @@ use lib.ListN.{length, take, drop}
 use lib.Dec.{eqb}
 use Rattle.layout.specs.Checks.{firstFail}
 use Rattle.answers.specs.Answers.{named}
-use Rattle.stock_frame.specs.Format.{Format, bodyChecks, around}
+use Rattle.stock_frame.specs.Format.{Format, bodyChecks, bodyPlace, around}
 use Rattle.answers.specs.declared.Answer.{Answer}
 use Rattle.stock_frame.specs.Outline.{own, body, outlineOf}
 use Rattle.stock_frame.specs.declared.head.Outline.{Outline}
@@ -28,8 +28,8 @@ kindOf F = (1 * 100 + F .number) * 100 + F .version
 unfoldable pub afterOutline : ℕ → ℕ → List ℕ → Answer
 afterOutline kind seq b =
     let format = kind / 100 % 100 in
-    named (firstFail (kindChecks (kind / 10000) format (kind % 100) ++ bodyChecks (formatOf format) b))
-    (record { format = format; seq = seq; length = around + length b })
+    let n = firstFail (kindChecks (kind / 10000) format (kind % 100) ++ bodyChecks (formatOf format) b) in
+    named n (record { format = format; seq = seq; length = around + length b }) (bodyPlace (formatOf format) b n)
 
 -- six digits that are no format's with its version
 abbrev pub noKind : ℕ → Type 0

@@ -15,7 +15,7 @@ use Rattle.stock_frame.specs.Codec.{Codec, legal, frameOf}
 use Rattle.layout.specs.Checks.{allHold}
 use Rattle.stock_frame.specs.Reads.{Reads}
 use Rattle.stock_frame.specs.Figures.{beside}
-use Rattle.stock_reading.specs.Reading.{isFormat, checks, answerOf, messageBy}
+use Rattle.stock_reading.specs.Reading.{isFormat, checks, placeOf, answerOf, messageBy}
 
 -- the answer to any bytes
 pub record AnswerSays (t : List ℕ) : Type 0 where
@@ -26,8 +26,10 @@ pub record AnswerSays (t : List ℕ) : Type 0 where
   -- else the number of the first check that fails, at most 13
   pub first : answerNumber (answerOf t) ≡ firstFail (checks t)
   pub at-most : answerNumber (answerOf t) ≤ 13
-  -- beside 0 the format, the number and the length, beside 1 to 5 nothing, beside the others the length
-  pub values : answerValues (answerOf t) ≡ beside (answerNumber (answerOf t)) (format (own t) ∷ sequence (own t) ∷ lengthOf t ∷ []) (lengthOf t)
+  -- beside 0 the format, the number and the length, beside 1 to 5 no length, beside the others the length; beside 3, 6 and 11 the place of
+  -- a bad digit, if one is the cause
+  pub values : answerValues (answerOf t)
+      ≡ beside (answerNumber (answerOf t)) (format (own t) ∷ sequence (own t) ∷ lengthOf t ∷ []) (lengthOf t) (placeOf (answerNumber (answerOf t)) t)
 
 -- the messages of one format
 pub record Trips {M : Type 0} (C : Codec M) (Shaped : M → Type 0) (none : M) : Type 0 where

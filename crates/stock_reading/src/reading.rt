@@ -5,6 +5,7 @@ ghost use lib.ListN.{length, drop};
 ghost use Rattle.stock_reading.specs.Reading.{answerOf, noticeAt, quoteAt, pricesAt, haltAt};
 ghost use Rattle.stock_reading.specs.Steps.{noKind, refusesKind, afterOutline, foundSays, kindSays};
 use answers::Answer;
+use digits::halves::Place;
 use stock_frame::head::Outline;
 use stock_frame::outline::outline;
 use stock_halts::HaltReading;
@@ -67,18 +68,18 @@ fn refused(kind: u32, n: usize) -> Answer
 {
     let format = kind / 100;
     if format == SIX / 100 {
-        return Answer::Refused(8, n);
+        return Answer::Refused(8, n, Place::None);
     }
     if format == TWELVE / 100 {
-        return Answer::Refused(8, n);
+        return Answer::Refused(8, n, Place::None);
     }
     if format == NINETEEN / 100 {
-        return Answer::Refused(8, n);
+        return Answer::Refused(8, n, Place::None);
     }
     if format == FIVE / 100 {
-        return Answer::Refused(8, n);
+        return Answer::Refused(8, n, Place::None);
     }
-    Answer::Refused(7, n)
+    Answer::Refused(7, n, Place::None)
 }
 
 // What the checks behind the outline answer, of a body and its frame's header.

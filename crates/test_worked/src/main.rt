@@ -54,8 +54,8 @@ fn put_reading(frame: &[u8], out: &mut [u8], at: usize) -> usize {
     let answer = read(frame, 0);
     match answer {
         Answer::Accepted(f) => put_message(frame, f.format, out, at),
-        Answer::NoFrame(n) => put_answer(out, at, n),
-        Answer::Refused(n, length) => {
+        Answer::NoFrame(n, _) => put_answer(out, at, n),
+        Answer::Refused(n, length, _) => {
             let at = put_answer(out, at, n);
             let at = put_all(out, at, b" length ");
             put_number(out, at, length as u64)

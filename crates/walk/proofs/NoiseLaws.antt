@@ -9,6 +9,7 @@ use lib.ListN.{length, getD, drop, drop-of-length-le}
 use lib.Seq.{drop-cons}
 use lib.Dec.{eqb}
 use borrow.Author.Tests.{eqb-false, eq-eqb, ne-eqb}
+use Rattle.digits.specs.declared.halves.Place.the-variants.{None}
 use Rattle.answers.specs.declared.Answer.{Answer}
 use Rattle.answers.specs.declared.Answer.the-variants.{NoFrame}
 use Rattle.walk.specs.Walk.{Reading, Move, taken, stops, walkFrom}
@@ -36,12 +37,12 @@ pub noise-goes-on : (line : List ℕ) (i : ℕ) → i < length line → (getD li
 noise-goes-on line i h e = ap noiseLength (at-place line i h) ∙ rw (ne-eqb (getD line i 0) 27 e)
 
 -- ---- told at once
-module _ (says : List ℕ → Answer) (longest : ℕ) (S : Sound (answering says) longest) (quiet : (b : ℕ) (bs : List ℕ) → (b ≡ 27 → ⊥) → says (b ∷ bs) ≡ NoFrame 1) (c : Bool) where
+module _ (says : List ℕ → Answer) (longest : ℕ) (S : Sound (answering says) longest) (quiet : (b : ℕ) (bs : List ℕ) → (b ≡ 27 → ⊥) → says (b ∷ bs) ≡ NoFrame 1 None) (c : Bool) where
   abbrev R : Reading Answer
   R = answering says
 
   -- a move over one of them
-  noise-moves : (place b : ℕ) (bs : List ℕ) → (b ≡ 27 → ⊥) → walkFrom R c place (b ∷ bs) ≡ record { at = place; said = NoFrame 1; bytes = 1 } ∷ walkFrom R c (place + 1) bs
+  noise-moves : (place b : ℕ) (bs : List ℕ) → (b ≡ 27 → ⊥) → walkFrom R c place (b ∷ bs) ≡ record { at = place; said = NoFrame 1 None; bytes = 1 } ∷ walkFrom R c (place + 1) bs
   noise-moves place b bs h =
       let q = quiet b bs h in
       let moves : stops R c (b ∷ bs) ≡ false = rw q in
@@ -50,7 +51,7 @@ module _ (says : List ℕ → Answer) (longest : ℕ) (S : Sound (answering says
 
   -- what follows them
   abbrev later : Kept → ℕ → List ℕ → ℕ → Next
-  later k n t at = onTold (toldOf k (NoFrame 1) n) (at + n) (nextOf (walkFrom R c (k .at + n) (drop n t)))
+  later k n t at = onTold (toldOf k (NoFrame 1 None) n) (at + n) (nextOf (walkFrom R c (k .at + n) (drop n t)))
 
   one : (k : Kept) (b : ℕ) (bs : List ℕ) (at : ℕ) → (b ≡ 27 → ⊥) → nextOf (walkFrom R c (k .at) (b ∷ bs)) k at ≡ later k 1 (b ∷ bs) at
   one k b bs at h = ap (λ (ms : List (Move Answer)). nextOf ms k at) (noise-moves (k .at) b bs h)
@@ -77,10 +78,10 @@ module _ (says : List ℕ → Answer) (longest : ℕ) (S : Sound (answering says
       go true e ih =
           let far : at + 1 + suc n ≡ at + suc (suc n) = omega arith in
           let place : k .at + 1 + suc n ≡ k .at + suc (suc n) = omega arith in
-          ap (λ (x : Told). onTold x (at + 1) (nextOf (walkFrom R c (k .at + 1) bs))) (told-half k (NoFrame 1) refl 1 (suc n) (omega arith) e)
-          ∙ ih (half k (NoFrame 1) refl 1 (suc n) (omega arith))
-          ∙ (λ i. onTold ((told-twice k (NoFrame 1) refl 1 (suc n) (omega arith) ∙ ap (toldOf k (NoFrame 1)) joined) i) (far i) (nextOf (walkFrom R c (place i) (drop (suc n) bs))))
+          ap (λ (x : Told). onTold x (at + 1) (nextOf (walkFrom R c (k .at + 1) bs))) (told-half k (NoFrame 1 None) refl 1 (suc n) (omega arith) e)
+          ∙ ih (half k (NoFrame 1 None) refl 1 (suc n) (omega arith))
+          ∙ (λ i. onTold ((told-twice k (NoFrame 1 None) refl 1 (suc n) (omega arith) ∙ ap (toldOf k (NoFrame 1 None)) joined) i) (far i) (nextOf (walkFrom R c (place i) (drop (suc n) bs))))
       go false e ih =
-          let f = told-full k (NoFrame 1) refl 1 (suc n) (omega arith) e in
+          let f = told-full k (NoFrame 1 None) refl 1 (suc n) (omega arith) e in
           ap (λ (x : Told). onTold x (at + 1) (nextOf (walkFrom R c (k .at + 1) bs))) (f .0)
-          ∙ sym (ap (λ (x : Told). onTold x (at + suc (suc n)) (nextOf (walkFrom R c (k .at + suc (suc n)) (drop (suc n) bs)))) (sym (ap (toldOf k (NoFrame 1)) joined) ∙ f .1))
+          ∙ sym (ap (λ (x : Told). onTold x (at + suc (suc n)) (nextOf (walkFrom R c (k .at + suc (suc n)) (drop (suc n) bs)))) (sym (ap (toldOf k (NoFrame 1 None)) joined) ∙ f .1))

@@ -3,6 +3,7 @@ use Prim.Native.Nat.{ℕ, _+_}
 use mathlib.Core.Bool.{Bool, true, false, cond, _&&_}
 use mathlib.Core.List.{List, [], _∷_}
 use lib.Dec.{eqb, leb}
+use Rattle.digits.specs.declared.halves.Place.the-variants.{None}
 use Rattle.answers.specs.Answers.{answerNumber}
 use Rattle.answers.specs.declared.Answer.{Answer}
 use Rattle.answers.specs.declared.Answer.the-variants.{NoFrame}
@@ -22,9 +23,9 @@ moveOf r = record { at = r .at; said = r .answer; bytes = r .bytes }
 abbrev pub rowOf : Move Answer → Row
 rowOf m = record { at = m .at; answer = m .said; bytes = m .bytes }
 
--- no skipped bytes: none of them stands for the reason that bytes are skipped for, 1
+-- no skipped bytes: none of them stands for the reason that bytes are skipped for, 1, which no digit is the cause of
 abbrev pub noRow : Row
-noRow = record { at = 0; bytes = 0; answer = NoFrame 1 }
+noRow = record { at = 0; bytes = 0; answer = NoFrame 1 None }
 
 -- at a line's beginning
 abbrev pub fresh : Kept

@@ -4,6 +4,7 @@ ghost use Prim.Native.Nat.{_+_, _≤_};
 ghost use Rattle.walk.specs.Tally.{largest};
 ghost use Rattle.walk.specs.Told.{noRow, fresh, joinedRow, framedRow, toldOf};
 use answers::Answer;
+use digits::halves::Place;
 
 // A move of a walk, or skipped bytes next to each other with the first one's reason.
 pub struct Row {
@@ -47,7 +48,7 @@ fn no_row() -> Row
     Row {
         at: 0,
         bytes: 0,
-        answer: Answer::NoFrame(1),
+        answer: Answer::NoFrame(1, Place::None),
     }
 }
 

@@ -14,7 +14,7 @@ use Rattle.stock_halts.specs.Halts.{roundTimes, timesRight, digitByte, codeFits
 use Rattle.stock_halts.specs.declared.Event.the-variants.{RoundEnd, Halted}
 use Rattle.stock_halts.proofs.RuleLaws.{round-told}
 use Rattle.stock_halts_read.proofs.TimeLaws.{first-small, last-small, first-good, second-good, first-time, second-time}
-use Rattle.stock_halts_read.proofs.ReadLaws.{refused-as, wrong-length, bad-times, wrong-times, wrong-code, wrong-state, accepted-as}
+use Rattle.stock_halts_read.proofs.ReadLaws.{refused-as, digit-as, wrong-length, bad-times, wrong-times, wrong-code, wrong-state, accepted-as}
 use borrow.Author.Needs.{needs}
 use Rattle.stock_halts_read.proofs.read.Statement.{statement}
 use Rattle.stock_halts_read.proofs.read.Tie as tie
@@ -73,20 +73,23 @@ refused-requires c κs = search needs
 returns : tie.Need-returns
 returns c =
     let a = c .before .before .before .args in
-    refused-as (a .seq) (a .body .now) 9 refl refl (wrong-length (a .body .now) (c .before .if1 .taken)) _ refl (c .refused .result) (c .refused .ensures)
+    refused-as (a .seq) (a .body .now) 9 refl refl refl (wrong-length (a .body .now) (c .before .if1 .taken)) _ refl (c .refused .result) (c .refused .ensures)
 
 six-at-requires : tie.Need-six-at-requires
 six-at-requires c κs = search needs
 
-refused-requires-2 : tie.Need-refused-requires-2
-refused-requires-2 c κs = search needs
+bad-answer-requires : tie.Need-bad-answer-requires
+bad-answer-requires c κs = search needs
+
+no-halt-requires : tie.Need-no-halt-requires
+no-halt-requires c κs = search needs
 
 returns-2 : tie.Need-returns-2
 returns-2 c =
-    let a = c .before .before .before .before .before .before .args in
-    let t = c .before .before .before .six-at in
-    let l : length (a .body .now) ≡ 13 = c .before .before .before .before .if1 .left in
-    refused-as (a .seq) (a .body .now) 11 refl refl (bad-times (a .body .now) l (t .result) (t .ensures) (not-true _ (c .before .if2 .taken))) 26 (omega arith) (c .refused2 .result) (c .refused2 .ensures)
+    let a = c .before .before .before .before .before .before .before .args in
+    let t = c .before .before .before .before .six-at in
+    let l : length (a .body .now) ≡ 13 = c .before .before .before .before .before .if1 .left in
+    digit-as (a .seq) (a .body .now) (omega (arith, l)) (bad-times (a .body .now) l (t .result) (t .ensures) (not-true _ (c .before .before .if2 .taken))) (c .no-halt .result) (c .no-halt .ensures .0 ∙ c .before .bad-answer .ensures, c .no-halt .ensures .1)
 
 mul-h : tie.Need-mul-h
 mul-h c =
@@ -108,14 +111,14 @@ times-right-requires c κs =
       second-time (bytes k) 6 (inside k) (times k) (times-read k) (times-good k),
     )
 
-refused-requires-3 : tie.Need-refused-requires-3
-refused-requires-3 c κs = search needs
+refused-requires-2 : tie.Need-refused-requires-2
+refused-requires-2 c κs = search needs
 
 returns-3 : tie.Need-returns-3
 returns-3 c =
     let k = c .before .before .before .before .before .before in
     let t : timesRight (halt-at k) (resume-at k) ≡ false = sym (c .before .before .times-right .ensures) ∙ not-true _ (c .before .if3 .taken) in
-    refused-as (number k) (bytes k) 12 refl refl (wrong-times (bytes k) (long k) (times k) (times-read k) (times-good k) t) 26 (omega (arith, long k)) (c .refused3 .result) (c .refused3 .ensures)
+    refused-as (number k) (bytes k) 12 refl refl refl (wrong-times (bytes k) (long k) (times k) (times-read k) (times-good k) t) 26 (omega (arith, long k)) (c .refused2 .result) (c .refused2 .ensures)
 
 code-at-requires : tie.Need-code-at-requires
 code-at-requires c κs = search needs
@@ -129,26 +132,26 @@ slice-aggregate-code-fits c = search needs
 code-fits-requires : tie.Need-code-fits-requires
 code-fits-requires c κs = search needs
 
-refused-requires-4 : tie.Need-refused-requires-4
-refused-requires-4 c κs = search needs
+refused-requires-3 : tie.Need-refused-requires-3
+refused-requires-3 c κs = search needs
 
 returns-4 : tie.Need-returns-4
 returns-4 c =
     let k = c .before .before .before .before .before .before .before .before .before .before .before in
     let f : codeFits (take 6 (bytes k)) (halt-at k) (resume-at k) ≡ false = sym (code-told (c .before .before)) ∙ not-true _ (c .before .if4 .taken) in
-    refused-as (number k) (bytes k) 13 refl refl (wrong-code (bytes k) (long k) (times k) (times-read k) (times-good k) (times-right (c .before .before .before .before .before .before)) f) 26 (omega (arith, long k)) (c .refused4 .result) (c .refused4 .ensures)
+    refused-as (number k) (bytes k) 13 refl refl refl (wrong-code (bytes k) (long k) (times k) (times-read k) (times-good k) (times-right (c .before .before .before .before .before .before)) f) 26 (omega (arith, long k)) (c .refused3 .result) (c .refused3 .ensures)
 
 state-right-requires : tie.Need-state-right-requires
 state-right-requires c κs = search needs
 
-refused-requires-5 : tie.Need-refused-requires-5
-refused-requires-5 c κs = search needs
+refused-requires-4 : tie.Need-refused-requires-4
+refused-requires-4 c κs = search needs
 
 returns-5 : tie.Need-returns-5
 returns-5 c =
     let k = c .before .before .before .before .before .before .before .before .before .before .before .before .before in
     let q : stateRight (getD (bytes k) 12 0) ≡ false = sym (c .before .before .state-right .ensures) ∙ not-true _ (c .before .if5 .taken) in
-    refused-as (number k) (bytes k) 13 refl refl (wrong-state (bytes k) (long k) (times k) (times-read k) (times-good k) (times-right (c .before .before .before .before .before .before .before .before)) q) 26 (omega (arith, long k)) (c .refused5 .result) (c .refused5 .ensures)
+    refused-as (number k) (bytes k) 13 refl refl refl (wrong-state (bytes k) (long k) (times k) (times-read k) (times-good k) (times-right (c .before .before .before .before .before .before .before .before)) q) 26 (omega (arith, long k)) (c .refused4 .result) (c .refused4 .ensures)
 
 event-of-requires : tie.Need-event-of-requires
 event-of-requires c κs = search needs
@@ -178,21 +181,22 @@ read-spec =
     refused-requires
     returns
     six-at-requires
-    refused-requires-2
+    bad-answer-requires
+    no-halt-requires
     returns-2
     mul-h
     add-h
     times-right-requires
-    refused-requires-3
+    refused-requires-2
     returns-3
     code-at-requires
     shared-slice-read-s
     slice-aggregate-code-fits
     code-fits-requires
-    refused-requires-4
+    refused-requires-3
     returns-4
     state-right-requires
-    refused-requires-5
+    refused-requires-4
     returns-5
     event-of-requires
     sending-of-requires

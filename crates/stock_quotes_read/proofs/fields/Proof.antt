@@ -12,7 +12,7 @@ use Rattle.stock_frame.specs.Format.{valuesOf}
 use Rattle.stock_quotes.specs.declared.Reveal.{Reveal}
 use Rattle.stock_quotes.specs.Reveal.{pairCount}
 use Rattle.stock_quotes.specs.Quotes.{sixCells, quoteTimed, sixTimed, six}
-use Rattle.stock_quotes_read.specs.Steps.{SidesOf, fixedGood, FixedOf}
+use Rattle.stock_quotes_read.specs.Steps.{withoutQuote, SidesOf, fixedGood, FixedOf}
 use Rattle.stock_quotes_read.proofs.ReadLaws.{bad-fixed, pairs-say}
 use Rattle.stock_quotes_read.proofs.BodyLaws.{digits-fail, time-fails, code-fails, timed-is, accepts}
 use borrow.Author.Needs.{needs}
@@ -74,36 +74,38 @@ time-ok k = sym (time-says (k .before)) ∙ not-false _ (k .if3 .left)
 fixed-fields-requires : tie.Need-fixed-fields-requires
 fixed-fields-requires c κs = search needs
 
-add-refused : tie.Need-add-refused
-add-refused c = search needs
+bad-answer-requires : tie.Need-bad-answer-requires
+bad-answer-requires c κs = search needs
 
-refused-requires : tie.Need-refused-requires
-refused-requires c κs = search needs
+no-quote-requires : tie.Need-no-quote-requires
+no-quote-requires c κs = search needs
 
 returns : tie.Need-returns
 returns c =
-    let z = c .before .before in
-    c .refused .ensures
+    let t = c .before .before in
+    let z = t .before in
+    c .no-quote .ensures ∙ ap withoutQuote (c .before .bad-answer .ensures)
     ∙ digits-fail (seq z) (bytes z) (shown z) (start z .pre)
-    (bad-fixed (bytes z) (shown z) (start z .pre) (sym (z .before .fixed-fields .ensures .0) ∙ not-true _ (c .before .if1 .taken)))
+    (bad-fixed (bytes z) (shown z) (start z .pre) (sym (z .before .fixed-fields .ensures .0) ∙ not-true _ (t .if1 .taken)))
 
 sides-at-requires : tie.Need-sides-at-requires
 sides-at-requires c κs = search needs
 
-add-refused-2 : tie.Need-add-refused-2
-add-refused-2 c = search needs
+bad-answer-requires-2 : tie.Need-bad-answer-requires-2
+bad-answer-requires-2 c κs = search needs
 
-refused-requires-2 : tie.Need-refused-requires-2
-refused-requires-2 c κs = search needs
+no-quote-requires-2 : tie.Need-no-quote-requires-2
+no-quote-requires-2 c κs = search needs
 
 returns-2 : tie.Need-returns-2
 returns-2 c =
-    let k = c .before .before in
+    let t = c .before .before in
+    let k = t .before in
     let e = fixed k in
     let z = e .before in
-    c .refused2 .ensures
+    c .no-quote2 .ensures ∙ ap withoutQuote (c .before .bad-answer2 .ensures)
     ∙ digits-fail (seq z) (bytes z) (shown z) (start z .pre)
-    (pairs-say (bytes z) (shown z) (start z .pre) (fixed-ok e) false (sym (k .before .sides-at .ensures .0) ∙ not-true _ (c .before .if2 .taken)))
+    (pairs-say (bytes z) (shown z) (start z .pre) (fixed-ok e) false (sym (k .before .sides-at .ensures .0) ∙ not-true _ (t .if2 .taken)))
 
 slice-aggregate-timed : tie.Need-slice-aggregate-timed
 slice-aggregate-timed c =
@@ -113,17 +115,17 @@ slice-aggregate-timed c =
 timed-requires : tie.Need-timed-requires
 timed-requires c κs = search needs
 
-add-refused-3 : tie.Need-add-refused-3
-add-refused-3 c = search needs
+add-refused : tie.Need-add-refused
+add-refused c = search needs
 
-refused-requires-3 : tie.Need-refused-requires-3
-refused-requires-3 c κs = search needs
+refused-requires : tie.Need-refused-requires
+refused-requires c κs = search needs
 
 returns-3 : tie.Need-returns-3
 returns-3 c =
     let t = c .before .before in
     let z = first (good t) in
-    c .refused3 .ensures
+    c .refused .ensures
     ∙ time-fails (seq z) (bytes z) (shown z) (start z .pre) (digits-ok (good t)) (sym (time-says t) ∙ not-true _ (c .before .if3 .taken))
 
 slice-aggregate-code-right : tie.Need-slice-aggregate-code-right
@@ -134,18 +136,18 @@ slice-aggregate-code-right c =
 code-right-requires : tie.Need-code-right-requires
 code-right-requires c κs = search needs
 
-add-refused-4 : tie.Need-add-refused-4
-add-refused-4 c = search needs
+add-refused-2 : tie.Need-add-refused-2
+add-refused-2 c = search needs
 
-refused-requires-4 : tie.Need-refused-requires-4
-refused-requires-4 c κs = search needs
+refused-requires-2 : tie.Need-refused-requires-2
+refused-requires-2 c κs = search needs
 
 returns-4 : tie.Need-returns-4
 returns-4 c =
     let t = c .before .before .before .before in
     let e = good (t .before) in
     let z = first e in
-    c .refused4 .ensures
+    c .refused2 .ensures
     ∙ code-fails (seq z) (bytes z) (shown z) (start z .pre) (digits-ok e) (time-ok t)
     (sym (c .before .before .code-right .ensures) ∙ not-true _ (c .before .if4 .taken))
 
@@ -169,22 +171,22 @@ fields-spec =
     tie.close
     (tie.spec
     fixed-fields-requires
-    add-refused
-    refused-requires
+    bad-answer-requires
+    no-quote-requires
     returns
     sides-at-requires
-    add-refused-2
-    refused-requires-2
+    bad-answer-requires-2
+    no-quote-requires-2
     returns-2
     slice-aggregate-timed
     timed-requires
-    add-refused-3
-    refused-requires-3
+    add-refused
+    refused-requires
     returns-3
     slice-aggregate-code-right
     code-right-requires
-    add-refused-4
-    refused-requires-4
+    add-refused-2
+    refused-requires-2
     returns-4
     accepted-requires
     returns-5)

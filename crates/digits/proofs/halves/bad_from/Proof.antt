@@ -16,7 +16,7 @@ abbrev μ-loop : tie.MeasureT-loop
 μ-loop s at n k₀ k = n - k
 
 loop-holds : tie.Need-loop-holds Inv-loop μ-loop
-loop-holds c = look-starts (c .args .s .now) (c .args .at) (c .args .n)
+loop-holds c = let a = c .before .args in look-starts (a .s .now) (a .at) (a .n)
 
 sub-if1 : tie.Need-sub-if1 Inv-loop μ-loop
 sub-if1 c = search needs
@@ -24,7 +24,7 @@ sub-if1 c = search needs
 returns : tie.Need-returns Inv-loop μ-loop
 returns c =
     let l = c .before .before .loop in
-    let a = c .before .before .before .args in
+    let a = c .before .before .before .before .args in
     look-past (a .s .now) (a .at) (a .n) (l .k) (omega arith) ∙ l .inv
 
 add-b : tie.Need-add-b Inv-loop μ-loop
@@ -33,32 +33,29 @@ add-b c = search needs
 shared-slice-read-b : tie.Need-shared-slice-read-b Inv-loop μ-loop
 shared-slice-read-b c = search needs
 
-add-t11 : tie.Need-add-t11 Inv-loop μ-loop
-add-t11 c = search needs
+add-place-of : tie.Need-add-place-of Inv-loop μ-loop
+add-place-of c = search needs
 
-mul-t12 : tie.Need-mul-t12 Inv-loop μ-loop
-mul-t12 c = search needs
+place-of-requires : tie.Need-place-of-requires Inv-loop μ-loop
+place-of-requires c κs = search needs
 
 returns-2 : tie.Need-returns-2 Inv-loop μ-loop
 returns-2 c =
-    let l = c .before .before .before .before .loop in
-    let a = c .before .before .before .before .before .args in
-    look-high (a .s .now) (a .at) (a .n) (l .k) (omega arith) (omega arith) (omega arith) ∙ l .inv
+    let l = c .before .before .before .before .before .loop in
+    let a = c .before .before .before .before .before .before .before .args in
+    c .place-of .ensures ∙ look-high (a .s .now) (a .at) (a .n) (l .k) (omega arith) (omega arith) (omega arith) ∙ l .inv
 
-add-t13 : tie.Need-add-t13 Inv-loop μ-loop
-add-t13 c = search needs
+add-place-of-2 : tie.Need-add-place-of-2 Inv-loop μ-loop
+add-place-of-2 c = search needs
 
-mul-t14 : tie.Need-mul-t14 Inv-loop μ-loop
-mul-t14 c = search needs
-
-add-t15 : tie.Need-add-t15 Inv-loop μ-loop
-add-t15 c = search needs
+place-of-requires-2 : tie.Need-place-of-requires-2 Inv-loop μ-loop
+place-of-requires-2 c κs = search needs
 
 returns-3 : tie.Need-returns-3 Inv-loop μ-loop
 returns-3 c =
-    let l = c .before .before .before .before .before .loop in
-    let a = c .before .before .before .before .before .before .args in
-    look-low (a .s .now) (a .at) (a .n) (l .k) (omega arith) (omega arith) (omega arith) (omega arith) ∙ l .inv
+    let l = c .before .before .before .before .before .before .loop in
+    let a = c .before .before .before .before .before .before .before .before .args in
+    c .place-of2 .ensures ∙ look-low (a .s .now) (a .at) (a .n) (l .k) (omega arith) (omega arith) (omega arith) (omega arith) ∙ l .inv
 
 add-k : tie.Need-add-k Inv-loop μ-loop
 add-k c = search needs
@@ -69,13 +66,13 @@ loop-less c = search needs
 loop-again : tie.Need-loop-again Inv-loop μ-loop
 loop-again c =
     let l = c .before .before .before .before .before .loop in
-    let a = c .before .before .before .before .before .before .args in
+    let a = c .before .before .before .before .before .before .before .args in
     look-turn (a .s .now) (a .at) (a .n) (l .k) (omega arith) (omega arith) (omega arith) (omega arith) ∙ l .inv
 
 returns-4 : tie.Need-returns-4 Inv-loop μ-loop
 returns-4 c =
     let l = c .before .loop in
-    let a = c .before .before .args in
+    let a = c .before .before .before .args in
     look-ends (a .s .now) (a .at) (a .n) (l .k) (omega arith) ∙ l .inv
 
 pub bad-from-spec : {M : Type 1} → statement M
@@ -89,12 +86,11 @@ bad-from-spec =
     returns
     add-b
     shared-slice-read-b
-    add-t11
-    mul-t12
+    add-place-of
+    place-of-requires
     returns-2
-    add-t13
-    mul-t14
-    add-t15
+    add-place-of-2
+    place-of-requires-2
     returns-3
     add-k
     loop-less

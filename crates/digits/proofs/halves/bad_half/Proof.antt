@@ -1,55 +1,37 @@
--- `halves::bad_half` meets its contract: the leading half, then all of them.
-use mathlib.Core.Path.{refl, _∙_}
-use borrow.Author.Needs.{needs}
-use borrow.Author.Tests.{not-true, not-false}
+-- `halves::bad_half` meets its contract: where there are more bytes than are looked at, of the first ones.
+use mathlib.Core.Path.{sym, ap, _∙_}
+use mathlib.Core.List.{List}
+use Prim.Native.Nat.{ℕ}
 use native.Mathlib.Omega.{arith}
-use Rattle.digits.proofs.HalfSteps.{field-past, field-lead, field-from}
+use lib.Seq.{take-all}
+use borrow.Author.Needs.{needs}
+use Rattle.digits.specs.Halves.{badIn}
 use Rattle.digits.proofs.halves.bad_half.Statement.{statement}
 use Rattle.digits.proofs.halves.bad_half.Tie as tie
 
+sub-bad-in : tie.Need-sub-bad-in
+sub-bad-in c = search needs
+
+part-bad-in-start : tie.Need-part-bad-in-start
+part-bad-in-start c = search needs
+
+part-bad-in-end : tie.Need-part-bad-in-end
+part-bad-in-end c = search needs
+
+bad-in-requires : tie.Need-bad-in-requires
+bad-in-requires c κs = search needs
+
 returns : tie.Need-returns
-returns c = let a = c .before .before .args in field-past (a .s .now) (a .at) (a .n) (omega arith)
+returns c = search needs
 
-shared-slice-read-bad-lead : tie.Need-shared-slice-read-bad-lead
-shared-slice-read-bad-lead c = search needs
-
-bad-lead-requires : tie.Need-bad-lead-requires
-bad-lead-requires c κs = search needs
-
-mul-t9 : tie.Need-mul-t9
-mul-t9 c = search needs
+bad-in-requires-2 : tie.Need-bad-in-requires-2
+bad-in-requires-2 c κs = search needs
 
 returns-2 : tie.Need-returns-2
 returns-2 c =
-    let a = c .before .before .before .before .before .args in
-    let b = c .before .bad-lead in
-    field-lead (a .s .now) (a .at) (a .n) (b .result) (b .ensures) (c .if2 .taken)
-
-add-bad-from : tie.Need-add-bad-from
-add-bad-from c = search needs
-
-cast-bad-from : tie.Need-cast-bad-from
-cast-bad-from c = search needs
-
-bad-from-requires : tie.Need-bad-from-requires
-bad-from-requires c κs = search needs
-
-returns-3 : tie.Need-returns-3
-returns-3 c =
-    let a = c .before .before .before .before .before .before .args in
-    let b = c .before .before .bad-lead in
-    c .bad-from .ensures ∙ field-from (a .s .now) (a .at) (a .n) (b .result) (b .ensures) (c .before .if2 .left) _ refl
+    let a = c .before .before .before .args in
+    c .bad-in2 .ensures ∙ ap (λ (s : List ℕ). badIn s (a .at) (a .n)) (sym (take-all 65535 (a .s .now) (omega arith)))
 
 pub bad-half-spec : {M : Type 1} → statement M
 bad-half-spec =
-    tie.close
-    (tie.spec
-    returns
-    shared-slice-read-bad-lead
-    bad-lead-requires
-    mul-t9
-    returns-2
-    add-bad-from
-    cast-bad-from
-    bad-from-requires
-    returns-3)
+    tie.close (tie.spec sub-bad-in part-bad-in-start part-bad-in-end bad-in-requires returns bad-in-requires-2 returns-2)

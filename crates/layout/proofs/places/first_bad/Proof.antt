@@ -4,13 +4,15 @@ use mathlib.Core.Path.{_≡_, refl, sym, _∙_}
 use borrow.Author.Needs.{needs}
 use native.Mathlib.Omega.{arith}
 use lib.ListN.{length}
+use Rattle.digits.specs.Halves.{looked}
 use Rattle.layout.specs.Places.{firstBad, cellsOf}
+use Rattle.layout.proofs.PlaceLaws.{length-take-less}
 use Rattle.layout.proofs.PlaceSteps.{leftBad, left-ends, left-past, left-bad, left-turn}
 use Rattle.layout.proofs.places.first_bad.Statement.{statement}
 use Rattle.layout.proofs.places.first_bad.Tie as tie
 
 abbrev Inv-loop : tie.InvT-loop
-Inv-loop cells s at₀ i₀ at i = leftBad cells s at i ≡ firstBad (cellsOf cells) 0 s
+Inv-loop cells s at₀ i₀ at i = leftBad cells (looked s) at i ≡ firstBad (cellsOf cells) 0 (looked s)
 
 abbrev μ-loop : tie.MeasureT-loop
 μ-loop cells s at₀ i₀ at i = length cells - i
@@ -29,7 +31,7 @@ returns : tie.Need-returns Inv-loop μ-loop
 returns c =
     let l = c .before .before in
     let a = start l .args in
-    left-past (a .cells .now) (a .s .now) (l .loop .at) (l .loop .i) (omega arith) ∙ l .loop .inv
+    left-past (a .cells .now) (looked (a .s .now)) (l .loop .at) (l .loop .i) (omega (arith, length-take-less 65535 (a .s .now))) ∙ l .loop .inv
 
 shared-slice-read-n : tie.Need-shared-slice-read-n Inv-loop μ-loop
 shared-slice-read-n c = search needs
@@ -45,7 +47,7 @@ returns-2 c =
     let k = c .before .before .before in
     let l = turn k in
     let a = start l .args in
-    left-bad (a .cells .now) (a .s .now) (l .loop .at) (l .loop .i) (omega arith) (k .bad-half .result) (k .bad-half .ensures) _ (c .before .p .given .1) ∙ l .loop .inv
+    left-bad (a .cells .now) (looked (a .s .now)) (l .loop .at) (l .loop .i) (omega arith) (k .bad-half .result) (k .bad-half .ensures) _ (c .before .p .given .1) ∙ l .loop .inv
 
 enum-told : tie.Need-enum-told Inv-loop μ-loop
 enum-told c = search needs
@@ -67,14 +69,14 @@ loop-again c =
     let k = c .before .before .before in
     let l = turn k in
     let a = start l .args in
-    left-turn (a .cells .now) (a .s .now) (l .loop .at) (l .loop .i) (omega arith) (k .bad-half .result) (k .bad-half .ensures) (c .before .enum-told .given .1) (c .cell-size .result) (c .cell-size .ensures .0)
+    left-turn (a .cells .now) (looked (a .s .now)) (l .loop .at) (l .loop .i) (omega arith) (k .bad-half .result) (k .bad-half .ensures) (c .before .enum-told .given .1) (c .cell-size .result) (c .cell-size .ensures .0)
     ∙ l .loop .inv
 
 returns-3 : tie.Need-returns-3 Inv-loop μ-loop
 returns-3 c =
     let l = c .before in
     let a = start l .args in
-    left-ends (a .cells .now) (a .s .now) (l .loop .at) (l .loop .i) (omega arith) ∙ l .loop .inv
+    left-ends (a .cells .now) (looked (a .s .now)) (l .loop .at) (l .loop .i) (omega arith) ∙ l .loop .inv
 
 pub first-bad-spec : {M : Type 1} → statement M
 first-bad-spec =

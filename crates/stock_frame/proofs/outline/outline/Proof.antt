@@ -42,10 +42,14 @@ shared-slice-read-length-in-2 c = search needs
 length-in-requires : tie.Need-length-in-requires
 length-in-requires c κs = search needs
 
+length-place-requires : tie.Need-length-place-requires
+length-place-requires c κs = search needs
+
 returns-4 : tie.Need-returns-4
 returns-4 c =
-    let a = c .before .before .before .before .before .before .before .before .before .args in
-    line-length (a .line .now) (a .at) (omega arith) (c .before .before .before .before .before .if2 .left) (omega arith) (c .before .length-in .result) (c .before .length-in .ensures) (c .if4 .taken)
+    let k = c .before in
+    let a = k .before .before .before .before .before .before .before .before .before .args in
+    line-length (a .line .now) (a .at) (omega arith) (k .before .before .before .before .before .if2 .left) (omega arith) (k .before .length-in .result) (k .before .length-in .ensures) (k .if4 .taken) (c .length-place .result) (c .length-place .ensures)
 
 returns-5 : tie.Need-returns-5
 returns-5 c =
@@ -88,6 +92,7 @@ outline-spec =
     add-length-in-2
     shared-slice-read-length-in-2
     length-in-requires
+    length-place-requires
     returns-4
     returns-5
     add-end

@@ -1,5 +1,7 @@
 -- `outline::own_outline` meets its contract: each check that fails answers.
+use native.Mathlib.Omega.{arith}
 use borrow.Author.Needs.{needs}
+use Rattle.stock_frame.proofs.OutlineLaws.{right-length}
 use Rattle.stock_frame.proofs.OutlineSteps.{own-return, own-feed, own-check, own-whole, own-head}
 use Rattle.stock_frame.proofs.outline.own_outline.Statement.{statement}
 use Rattle.stock_frame.proofs.outline.own_outline.Tie as tie
@@ -65,12 +67,18 @@ returns-4 c =
     own-whole f (s .pre .0) (s .pre .1) (s .pre .2) (s .pre .3) (c .before .before .before .before .before .before .before .before .before .if1 .left) (c .before .before .before .before .before .before .before .if2 .left) (c .before .before .before .before .before .xor-of .result) (c .before .before .before .before .before .xor-of .ensures) (c .before .before .before .if3 .left)
     (c .before .before .eight-at .result) (c .before .before .eight-at .ensures) (c .before .if4 .taken)
 
+head-place-requires : tie.Need-head-place-requires
+head-place-requires c κs =
+    let s = c .before .before .before .before .before .before .before .before .before .before .before in
+    (s .pre .0, omega (arith, right-length (s .args .f .now) (s .pre .2) .1, s .pre .3))
+
 returns-5 : tie.Need-returns-5
 returns-5 c =
-    let s = c .before .before .before .before .before .before .before .before .before .before .before in
+    let k = c .before in
+    let s = k .before .before .before .before .before .before .before .before .before .before .before in
     let f = s .args .f .now in
-    own-head f (s .pre .0) (s .pre .1) (s .pre .2) (s .pre .3) (c .before .before .before .before .before .before .before .before .if1 .left) (c .before .before .before .before .before .before .if2 .left) (c .before .before .before .before .xor-of .result) (c .before .before .before .before .xor-of .ensures) (c .before .before .if3 .left)
-    (c .before .eight-at .result) (c .before .eight-at .ensures) (c .if4 .left)
+    own-head f (s .pre .0) (s .pre .1) (s .pre .2) (s .pre .3) (k .before .before .before .before .before .before .before .before .if1 .left) (k .before .before .before .before .before .before .if2 .left) (k .before .before .before .before .xor-of .result) (k .before .before .before .before .xor-of .ensures) (k .before .before .if3 .left)
+    (k .before .eight-at .result) (k .before .eight-at .ensures) (k .if4 .left) (c .head-place .result) (c .head-place .ensures)
 
 pub own-outline-spec : {M : Type 1} → statement M
 own-outline-spec =
@@ -92,4 +100,5 @@ own-outline-spec =
     returns-3
     eight-at-requires
     returns-4
+    head-place-requires
     returns-5)
