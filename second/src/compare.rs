@@ -12,7 +12,7 @@ use crate::generate::Generator;
 use crate::reading::read_at;
 use crate::seen::{around, Seen};
 use crate::series::texts;
-use crate::{board, gaps, listing, messages, numbers, table};
+use crate::{board, gaps, listing, messages, numbers, refusals, table};
 
 /// The most frames of one line, which are enough to fill a board, and the frames of the shorter lines behind each.
 const LINE: usize = 25_000;
@@ -37,9 +37,10 @@ struct Program {
     own: fn(&[u8], &mut Vec<u8>) -> io::Result<()>,
 }
 
-const PROGRAMS: [Program; 7] = [
+const PROGRAMS: [Program; 8] = [
     Program { call: &["listing"], given: Given::Line, own: |input, output| listing::list(input, output) },
     Program { call: &["messages"], given: Given::Line, own: |input, output| messages::tell(input, output) },
+    Program { call: &["refusals"], given: Given::Line, own: |input, output| refusals::tell(input, output) },
     Program { call: &["gaps"], given: Given::Line, own: |input, output| gaps::tell(input, output, WhenFull::Refuse) },
     Program {
         call: &["gaps", "give-up"],
@@ -117,7 +118,7 @@ impl Comparison {
             }
         }
         if frames >= ENOUGH && !seen.is_all() {
-            return Err(format!("seed {seed}: one of the answers did not occur"));
+            return Err(format!("seed {seed}: one of the answers or places did not occur"));
         }
         Ok(())
     }

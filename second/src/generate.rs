@@ -83,6 +83,33 @@ impl Draft {
     }
 }
 
+/// A half to be made bad: its place in a frame of a format, 0 for any, and the values with which it is bad.
+#[derive(Clone, Copy)]
+struct Spot {
+    format: u64,
+    place: usize,
+    values: (u8, u8),
+}
+
+const NO_DIGIT: (u8, u8) = (10, 15);
+const NO_LEADING_ZERO: (u8, u8) = (1, 9);
+
+/// Each half of the length and the header, and of every packed field of every format; those that prices begin with are bad in
+/// two ways.
+fn spots() -> Vec<Spot> {
+    let half = |format, place, values| Spot { format, place, values };
+    let mut spots: Vec<Spot> = (2..20).map(|place| half(0, place, NO_DIGIT)).collect();
+    for (format, longest) in [(5, 1), (6, 118), (12, 361), (19, 13)] {
+        let draft = Draft { format, head: Vec::new(), body: vec![0; longest] };
+        let high = |at: usize| 2 * (10 + at);
+        for at in draft.packed() {
+            spots.extend([high(at), high(at) + 1].map(|place| half(format, place, NO_DIGIT)));
+        }
+        spots.extend(draft.prices().into_iter().map(|at| half(format, high(at), NO_LEADING_ZERO)));
+    }
+    spots
+}
+
 /// Adds a number as so many packed digits, an even count; digits above are left out.
 fn digits(bytes: &mut Vec<u8>, number: u64, count: u32) {
     for place in (0..count / 2).rev() {
@@ -107,11 +134,15 @@ pub struct Generator {
     random: Random,
     quotes: Series,
     stocks: Vec<Code>,
+    spots: Vec<Spot>,
+    /// Whose turn it is to be made bad.
+    turn: usize,
 }
 
 impl Generator {
     pub fn new(seed: u64) -> Generator {
-        Generator { random: Random::new(seed), quotes: Series::new(WhenFull::Refuse), stocks: Vec::new() }
+        let quotes = Series::new(WhenFull::Refuse);
+        Generator { random: Random::new(seed), quotes, stocks: Vec::new(), spots: spots(), turn: 0 }
     }
 
     /// A closed line of so many frames, whole or damaged, with noise between them. At its end a frame is cut. The numbers of
@@ -123,7 +154,8 @@ impl Generator {
         for _ in 1..frames {
             let piece = match self.random.below(20) {
                 0..=9 => self.whole(),
-                10..=17 => self.damaged(),
+                10..=16 => self.damaged(),
+                17 => self.bad_half(),
                 18 => self.around_frames(),
                 _ => self.cut(),
             };
@@ -182,16 +214,21 @@ impl Generator {
     }
 
     fn quote(&mut self) -> Draft {
-        let (mut code, mut time) = (self.quoted_code(), self.time());
-        if self.random.one_in(30) {
-            (code, time) = (ZERO, NINES);
-        }
         let trade = self.random.byte() & 0x80;
         let reveal = if self.random.one_in(4) {
             trade | 1
         } else {
             trade | (self.random.within(0..=5) << 4 | self.random.within(0..=5) << 1) as u8
         };
+        self.quote_of(reveal)
+    }
+
+    /// A quote with the pairs that a reveal byte says.
+    fn quote_of(&mut self, reveal: u8) -> Draft {
+        let (mut code, mut time) = (self.quoted_code(), self.time());
+        if self.random.one_in(30) {
+            (code, time) = (ZERO, NINES);
+        }
         let mut body = code.to_vec();
         digits(&mut body, time, 12);
         body.extend([reveal, self.random.byte(), self.random.byte()]);
@@ -387,6 +424,35 @@ impl Generator {
             1 => byte & 0xF0 | half,
             _ => half << 4 | half,
         }
+    }
+
+    /// A frame with a bad half, the next one in turn, and perhaps with further ones behind it and a wrong code.
+    fn bad_half(&mut self) -> Vec<u8> {
+        let spot = self.spots[self.turn % self.spots.len()];
+        self.turn += 1;
+        let mut draft = match spot.format {
+            5 => self.notice(),
+            6 => self.quote_of(0xDA),
+            12 => self.prices(),
+            19 => self.halt(),
+            _ => self.draft(),
+        };
+        if draft.format != 5 && self.random.one_in(3) {
+            let code = self.wrong_code();
+            draft.put(usize::from(draft.format == 12), &code);
+        }
+        for at in draft.packed().into_iter().filter(|at| 10 + at > spot.place / 2) {
+            if self.random.one_in(100) {
+                draft.body[at] = self.bad_digit(draft.body[at]);
+            }
+        }
+        let mut bytes = draft.bytes();
+        let (least, greatest) = spot.values;
+        let half = self.random.within(usize::from(least)..=usize::from(greatest)) as u8;
+        let byte = &mut bytes[spot.place / 2];
+        *byte = if spot.place % 2 == 1 { *byte & 0xF0 | half } else { half << 4 | *byte & 0x0F };
+        put_check_right(&mut bytes);
+        bytes
     }
 
     /// A body of another length, so that the whole frame has it.

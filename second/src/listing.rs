@@ -18,20 +18,24 @@ pub fn list<R: Read, W: Write>(input: R, mut output: W) -> io::Result<()> {
     let mut run: Option<Run> = None;
     writeln!(output, "at,answer,bytes,format,seq")?;
     each_move(input, |at, answer, bytes| {
+        let bytes = bytes.len() as u64;
         match answer {
             Answer::Accepted { message, .. } => {
                 end_run(&mut run, &mut output)?;
                 writeln!(output, "{at},0,{bytes},{},{}", message.format(), message.number())?;
-                accepted += bytes as u64;
+                accepted += bytes;
             }
             Answer::Refused { why, .. } => {
                 end_run(&mut run, &mut output)?;
                 writeln!(output, "{at},{},{bytes},-,-", *why as u8)?;
-                refused += bytes as u64;
+                refused += bytes;
             }
-            Answer::NoFrame(why) => {
-                run.get_or_insert(Run { at, reason: *why as u8, bytes: 0 }).bytes += bytes as u64;
-                skipped += bytes as u64;
+            Answer::NoFrame { why, .. } => {
+                match &mut run {
+                    Some(run) => run.bytes += bytes,
+                    None => run = Some(Run { at, reason: *why as u8, bytes }),
+                }
+                skipped += bytes;
             }
         }
         Ok(())

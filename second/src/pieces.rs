@@ -8,12 +8,12 @@ use crate::reading::{read, Answer, NoFrame};
 /// The size of the one buffer.
 const BUFFER: usize = 64 * 1024;
 
-/// Reads the input to its end and hands on each move: its place, its answer and how many bytes it takes. Bytes next to each
+/// Reads the input to its end and hands on each move: its place, its answer and the bytes that it takes. Bytes next to each
 /// other that are no 27 come as one move.
 pub fn each_move<R, F>(mut input: R, mut hand_on: F) -> io::Result<()>
 where
     R: Read,
-    F: FnMut(u64, &Answer, usize) -> io::Result<()>,
+    F: FnMut(u64, &Answer, &[u8]) -> io::Result<()>,
 {
     let mut buffer = vec![0; BUFFER];
     let (mut start, mut end, mut ended) = (0, 0, false);
@@ -41,10 +41,12 @@ where
         let bytes = match answer {
             Answer::Accepted { length, .. } | Answer::Refused { length, .. } => length,
             // All bytes up to the next 27 have the same answer.
-            Answer::NoFrame(NoFrame::NotAStart) => rest.iter().position(|&byte| byte == ESC).unwrap_or(rest.len()),
-            Answer::NoFrame(_) => 1,
+            Answer::NoFrame { why: NoFrame::NotAStart, .. } => {
+                rest.iter().position(|&byte| byte == ESC).unwrap_or(rest.len())
+            }
+            Answer::NoFrame { .. } => 1,
         };
-        hand_on(at, &answer, bytes)?;
+        hand_on(at, &answer, &rest[..bytes])?;
         start += bytes;
         at += bytes as u64;
     }

@@ -3,6 +3,7 @@
 use crate::five::{self, Notice};
 use crate::nineteen::{self, Halt};
 use crate::outline::{outline, Header, BUSINESS, HEAD, TAIL};
+use crate::places;
 use crate::six::{self, Quote};
 use crate::twelve::{self, Prices};
 
@@ -60,12 +61,13 @@ impl Message {
     }
 }
 
+/// A place is that of the first bad half, for 6, 11, and 3 where a digit is bad.
 #[expect(clippy::large_enum_variant, reason = "a box would cost an allocation for each frame, as in a message")]
 #[derive(Clone, Copy, Debug, PartialEq, Eq)]
 pub enum Answer {
     Accepted { length: usize, message: Message },
-    Refused { length: usize, why: Refusal },
-    NoFrame(NoFrame),
+    Refused { length: usize, why: Refusal, place: Option<usize> },
+    NoFrame { why: NoFrame, place: Option<usize> },
 }
 
 impl Answer {
@@ -74,7 +76,7 @@ impl Answer {
         match *self {
             Answer::Accepted { .. } => 0,
             Answer::Refused { why, .. } => why as u8,
-            Answer::NoFrame(why) => why as u8,
+            Answer::NoFrame { why, .. } => why as u8,
         }
     }
 
@@ -82,7 +84,15 @@ impl Answer {
     pub fn length(&self) -> Option<usize> {
         match *self {
             Answer::Accepted { length, .. } | Answer::Refused { length, .. } => Some(length),
-            Answer::NoFrame(_) => None,
+            Answer::NoFrame { .. } => None,
+        }
+    }
+
+    /// Where the first bad half is, in halves from the frame's first byte.
+    pub fn place(&self) -> Option<usize> {
+        match *self {
+            Answer::Accepted { .. } => None,
+            Answer::Refused { place, .. } | Answer::NoFrame { place, .. } => place,
         }
     }
 
@@ -99,11 +109,12 @@ impl Answer {
 pub fn read(bytes: &[u8]) -> Answer {
     let length = match outline(bytes) {
         Ok(length) => length,
-        Err(why) => return Answer::NoFrame(why),
+        Err(why) => return Answer::NoFrame { why, place: places::of_no_frame(why, bytes) },
     };
-    match read_frame(&bytes[..length]) {
+    let frame = &bytes[..length];
+    match read_frame(frame) {
         Ok(message) => Answer::Accepted { length, message },
-        Err(why) => Answer::Refused { length, why },
+        Err(why) => Answer::Refused { length, why, place: places::of_refusal(why, frame) },
     }
 }
 

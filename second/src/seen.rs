@@ -1,11 +1,12 @@
-//! What occurs on a line: every answer of the reading and of the ledger, and what a board comes to, counted, and every
-//! accepted message written back.
+//! What occurs on a line: every answer of the reading and of the ledger, every place of a bad half, and what a board comes to,
+//! counted, and every accepted message written back.
 
 use std::collections::BTreeMap;
 use std::fmt;
 
 use crate::board::{self, Row};
 use crate::gaps::{hear, WhenFull};
+use crate::halves::Halves;
 use crate::ledger::{Arrival, Ledger, Refusal};
 use crate::outline::HEAD;
 use crate::reading::{self, read_at, Answer, Message};
@@ -23,6 +24,8 @@ pub const SHOWN: [&str; 3] = ["levels shown", "the trade alone", "nothing"];
 pub struct Seen {
     /// By the answers' numbers, at every place of the walk.
     pub answers: [u64; 14],
+    /// The bad halves that were told.
+    pub halves: Halves,
     /// Frames refused with 10, by their case; another length is one that the reveal byte does not give.
     pub levels: [u64; 3],
     /// Accepted frames of the formats five, six, twelve and nineteen. Each was written back and gave its own bytes.
@@ -54,7 +57,8 @@ impl Seen {
         let mut quotes: BTreeMap<Code, Vec<Quote>> = BTreeMap::new();
         for step in walk(line, Line::Closed) {
             self.answers[usize::from(step.answer.number())] += 1;
-            if let Answer::Refused { length, why: reading::Refusal::Levels } = step.answer {
+            self.halves.add(&step.answer, &line[step.place..]);
+            if let Answer::Refused { length, why: reading::Refusal::Levels, .. } = step.answer {
                 self.levels[levels_case(&line[step.place..step.place + length])] += 1;
             }
             if let Answer::Accepted { length, message } = &step.answer {
@@ -136,7 +140,7 @@ impl Seen {
         let of_frames = self.answers.iter().chain(&self.levels).chain(&self.formats).chain(&self.shown);
         let of_boards = self.taken.iter().chain(&self.kept).chain(&self.rows).chain(&self.sides);
         let of_ledgers = self.arrivals.iter().chain(&self.above_floor).chain([&self.given_up]);
-        of_frames.chain(of_ledgers).chain(of_boards).all(|&times| times > 0)
+        of_frames.chain(of_ledgers).chain(of_boards).all(|&times| times > 0) && self.halves.missed().is_none()
     }
 }
 
@@ -148,6 +152,7 @@ impl fmt::Display for Seen {
         }
         f.write_str("; 10 for ")?;
         cases(f, &LEVELS, &self.levels)?;
+        write!(f, "\n{}", self.halves)?;
         let [five, six, twelve, nineteen] = self.formats;
         write!(f, "\naccepted and written back: five {five}, six {six}, twelve {twelve}, nineteen {nineteen}")?;
         f.write_str("; of six ")?;

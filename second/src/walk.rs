@@ -52,8 +52,8 @@ impl Iterator for Walk<'_> {
         let (bytes, kind) = match answer {
             Answer::Accepted { length, .. } => (length, Kind::Accepted),
             Answer::Refused { length, .. } => (length, Kind::Refused),
-            Answer::NoFrame(NoFrame::TooFewBytes) if self.line == Line::Open => (rest.len(), Kind::Waiting),
-            Answer::NoFrame(_) => (1, Kind::Skipped),
+            Answer::NoFrame { why: NoFrame::TooFewBytes, .. } if self.line == Line::Open => (rest.len(), Kind::Waiting),
+            Answer::NoFrame { .. } => (1, Kind::Skipped),
         };
         self.place += bytes;
         Some(Move { place, answer, bytes, kind })

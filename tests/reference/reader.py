@@ -160,6 +160,40 @@ def read_nineteen(body):
 
 
 # ---------------------------------------------------------------------------------------------------------------------
+# The place of a bad digit: a frame's halves are the letters of its hex text, laid under a picture of the frame. In a picture 9
+# stands for a digit, 0 for the half that a price begins with, which has to be 0, and x for a half that is no digit.
+
+TIME, SHORT_TIME, PRICE, QUANTITY, CODE = "9" * 12, "9" * 6, "0" + "9" * 9, "9" * 8, "x" * 12
+HEAD = "xx" + "9999"
+HEADER = "x" * 6 + "99" + "99" + "99" + "9" * 8
+
+
+def picture(whole):
+    """The picture of a frame up to its body's end, the bytes before the body aside."""
+    form, reveal = digits(whole[4:5]), whole[22:23]
+    pairs = sum(reveal[0] >> shift & mask for shift, mask in ((7, 1), (4, 7), (1, 7))) if form == 6 else 0
+    body = {
+        5: "99",
+        6: CODE + TIME + "xxxxxx" + QUANTITY + (PRICE + QUANTITY) * pairs,
+        12: "99" + (CODE + PRICE * 4 + QUANTITY + TIME) * 10,
+        19: CODE + SHORT_TIME * 2,
+    }
+    return "x" * 20 + body[form]
+
+
+def place(data):
+    """Where the first bad digit is that a reading answers 3, 6 or 11 for, in halves from the first byte; None if there is none."""
+    answer, length, _ = read(data)
+    if answer not in (3, 6, 11):
+        return None
+    shown = {3: HEAD, 6: HEADER}.get(answer) or picture(data[:length])
+    for at, (wanted, half) in enumerate(zip(shown, data.hex())):
+        if wanted == "9" and half in "abcdef" or wanted == "0" and half != "0":
+            return at
+    return None
+
+
+# ---------------------------------------------------------------------------------------------------------------------
 # The walk of a closed line.
 
 def walk(line):

@@ -1,8 +1,8 @@
 """Frames to refuse, by the answers 6 to 13: each has a whole outline and is made for one answer. One is good, the near side of
-a rule.
+a rule. Behind them stand frames with a bad digit in each half of each packed field, and the place of it.
 """
 
-from .frames import NINES, good, halt, levels, notice, packed, patched, quote, refused, shown, slot, table
+from .frames import NINES, UNUSED, good, halt, levels, notice, packed, patched, quote, refused, shown, slot, table
 
 
 def refused_6():
@@ -210,3 +210,84 @@ CASES = [
     refused_12,
     refused_13,
 ]
+
+
+# ---------------------------------------------------------------------------------------------------------------------
+# Bad digits with their places, which are counted in halves from a frame's first byte: the body begins at place 20. Each is given as
+# a place and a frame.
+
+PAIRS, PAIR = 58, 18  # where format six's pairs begin, and how many halves one takes
+SLOTS, SLOT = 22, 72  # the same of format twelve's slots
+FIELDS = {"opening": 12, "highest": 22, "lowest": 32, "last": 42, "total": 52, "time": 60}  # within a slot
+
+
+def spoiled(digits, turn=0):
+    """Packed digits with a bad one in each place in turn, and that place; a price's leading 0 is spoiled by one of 1 to 9 too."""
+    for at in range(len(digits)):
+        yield at, digits[:at] + "ABCDEF"[(at + turn) % 6] + digits[at + 1:]
+    if len(digits) == 10:
+        yield 0, "123456789"[turn % 9] + digits[1:]
+
+
+def bad_headers():
+    """Business, format, version and number, places 6 to 19, of a notice; its category is bad as well and is not looked at."""
+    for at, header in spoiled("01" "05" "01" "00000001"):
+        yield 6 + at, refused(6, header[2:4], notice("0A"), business=header[:2], version=header[4:6], seq=header[6:])
+
+
+def bad_notices():
+    for at, category in spoiled("09"):
+        yield 20 + at, refused(11, "05", notice(category, b"\xff\xaatext"))
+
+
+def bad_quotes():
+    """A quote of eleven pairs, and the trade alone; flags above 9 are no digits."""
+    flags = dict(limit=0xFF, status=0xAB)
+    for at, time in spoiled("090415061278"):
+        yield 32 + at, refused(11, "06", quote(0xDA, time=time, **flags))
+    for at, total in spoiled("00016423"):
+        yield 50 + at, refused(11, "06", quote(0xDA, total=total, **flags))
+    for reveal in (0xDA, 0x81):
+        for n in range(shown(reveal)):
+            before, behind = levels(n), levels(shown(reveal))[9 * n + 9:]
+            for at, price in spoiled("0000995000", n):
+                pair = packed(price + "00000250")
+                yield PAIRS + PAIR * n + at, refused(11, "06", quote(reveal, before + pair + behind, **flags))
+            for at, quantity in spoiled("00000250", n):
+                pair = packed("0000995000" + quantity)
+                yield PAIRS + PAIR * n + 10 + at, refused(11, "06", quote(reveal, before + pair + behind, **flags))
+
+
+def bad_tables():
+    """The count, and all fields of all ten slots, whether they are counted or not."""
+    good_slot = dict(opening="0000125000", highest="0000128000", lowest="0000124000", last="0000125000", total="00000008",
+                     time="091003554189")
+    for at, count in spoiled("02"):
+        yield 20 + at, refused(11, "12", table(slot(), slot(), count=count))
+    for n in range(10):
+        for field, offset in FIELDS.items():
+            for at, digits in spoiled(good_slot[field], n + offset):
+                slots = [slot()] * 2 + [UNUSED] * 8
+                slots[n] = slot(**{**good_slot, field: digits})
+                yield SLOTS + SLOT * n + offset + at, refused(11, "12", table(*slots, count="02"))
+
+
+def bad_halts():
+    for at, halted in spoiled("091200"):
+        yield 32 + at, refused(11, "19", halt(halted=halted, state=b"\xff"))
+    for at, resumed in spoiled("115700"):
+        yield 38 + at, refused(11, "19", halt(resumed=resumed))
+
+
+def two_bad_digits():
+    """The lower place is told, whatever is behind it, and whatever stands before it that is no digit."""
+    yield 7, refused(6, "FF", notice("0A"), business="0B", seq="0000000A")
+    yield 21, refused(11, "05", notice("0F", b"\xff" * 60))
+    yield 43, refused(11, "06", quote(0x81, packed("1F00000000" "A0000000"), b"\xff" * 6, "25000000000A", 0xFF, 0xFF, "AAAAAAAA"))
+    yield 50, refused(11, "06", quote(0x81, packed("1F00000000" "A0000000"), b"\xff" * 6, limit=0xFF, total="A000000B"))
+    yield 58, refused(11, "06", quote(0x81, packed("1F00000000" "A0000000")))
+    yield 59, refused(11, "06", quote(0x81, packed("0F00000000" "A0000000")))
+    yield 75, refused(11, "06", quote(0xA2, packed("0000000000" "0000000F") + packed("9000000000" "00000000") + levels(2)))
+    yield 20, refused(11, "12", table(slot(total="FFFFFFFF"), count="A0"))
+    yield 89, refused(11, "12", table(slot(b"\xff" * 6, time="2500000F0000"), slot(opening="1000000000")))
+    yield 43, refused(11, "19", halt(b"\xff" * 6, "240000", "99999A", b"\xff"))

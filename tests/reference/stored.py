@@ -12,6 +12,7 @@ ROOT = pathlib.Path(__file__).resolve().parents[2]
 CRATES = {
     "listing": "program_listing",
     "messages": "program_messages",
+    "refusals": "program_refusals",
     "gaps": "program_gaps",
     "board": "program_board",
     "table": "program_table",

@@ -14,6 +14,7 @@ fn script(listed: &str, behind: &str) -> PathBuf {
     let programs = [
         ("listing", env!("CARGO_BIN_EXE_listing")),
         ("messages", env!("CARGO_BIN_EXE_messages")),
+        ("refusals", env!("CARGO_BIN_EXE_refusals")),
         ("gaps", env!("CARGO_BIN_EXE_gaps")),
         ("board", env!("CARGO_BIN_EXE_board")),
         ("numbers", env!("CARGO_BIN_EXE_numbers")),
@@ -46,9 +47,9 @@ fn compare(listed: &str, behind: &str, frames: &str) -> (Option<i32>, String) {
 
 #[test]
 fn the_same() {
-    let (status, text) = compare("listing messages gaps board numbers table", "cat", "300");
+    let (status, text) = compare("listing messages refusals gaps board numbers table", "cat", "300");
     assert_eq!(status, Some(0), "{text}");
-    for program in ["listing", "messages", "gaps", "gaps give-up", "board", "numbers", "table"] {
+    for program in ["listing", "messages", "refusals", "gaps", "gaps give-up", "board", "numbers", "table"] {
         assert!(text.lines().any(|line| line.starts_with(&format!("{program}: ")) && line.ends_with(" all the same")));
     }
 }
@@ -63,9 +64,14 @@ fn only_what_is_listed() {
     let (status, text) = compare("worked gaps", "cat", "100000");
     assert_eq!(status, Some(1), "{text}");
     assert!(text.contains(" lists no program listing\n"), "{text}");
-    let (status, text) = compare("listing messages gaps board numbers", "cat", "100000");
-    assert_eq!(status, Some(1), "{text}");
-    assert!(text.contains(" lists no program table\n"), "{text}");
+    for (listed, missing) in [
+        ("listing messages refusals gaps board numbers", "table"),
+        ("listing messages gaps board numbers table", "refusals"),
+    ] {
+        let (status, text) = compare(listed, "cat", "100000");
+        assert_eq!(status, Some(1), "{text}");
+        assert!(text.contains(&format!(" lists no program {missing}\n")), "{text}");
+    }
 }
 
 #[test]
@@ -75,6 +81,9 @@ fn a_difference() {
         ("listing", "sed '$d'", "no such row", "total,"),
         ("messages", "sed '1s/\"seq\":/\"seq\":1/'", "{\"at\":", "{\"at\":"),
         ("messages", "sed 's/\"bids\":null/\"bids\":[]/'", "\"bids\":[],\"asks\":null", "\"bids\":null,\"asks\":null"),
+        ("refusals", "sed 's/\"place\":[0-9]*/\"place\":null/'", "\"place\":null", "\"place\":"),
+        ("refusals", "sed 's/\"answer\":11,/\"answer\":12,/'", "\"answer\":12,", "\"answer\":11,"),
+        ("refusals", "sed 's/has a bad digit/has bad digits/'", "has bad digits\"", "has a bad digit\""),
         ("gaps", "sed 's/\"heard\":/\"heard\":1/'", "\"heard\":1", "{\"highest\":"),
         ("board", "sed 's/\"trade\":{.*},\"bids\"/\"trade\":null,\"bids\"/'", "\"trade\":null,", "\"trade\":{"),
         ("board", "sed '$p'", "{\"code\":", "no such row"),
@@ -89,7 +98,7 @@ fn a_difference() {
         let row = |name: &str| text.lines().find(|line| line.starts_with(name)).unwrap_or_default().to_string();
         assert!(row("  proved: ").contains(proved), "{text}");
         assert!(row("  second: ").contains(second), "{text}");
-        assert_eq!(text.contains("\nfrom "), program == "messages", "{text}");
+        assert_eq!(text.contains("\nfrom "), ["messages", "refusals"].contains(&program), "{text}");
     }
 }
 

@@ -78,6 +78,9 @@ fn lengths() {
     assert_eq!(read(&frame(FIVE, &[])).number(), 3); // 13
     assert_eq!(read(&frame(FIVE, &[0; 1012])).number(), 3); // 1,025
     assert_eq!(read(&frame(FIVE, &[0])).number(), 0); // 14
-    assert_eq!(read(&frame(FIVE, &[0; 1011])), Answer::Refused { length: 1024, why: second::Refusal::Length });
+    assert_eq!(
+        read(&frame(FIVE, &[0; 1011])),
+        Answer::Refused { length: 1024, why: second::Refusal::Length, place: None }
+    );
     assert_eq!(["1B0013", "1B1025", "1B0014", "1B1024"].map(number), [3, 3, 2, 2]);
 }

@@ -42,7 +42,7 @@ fn every_answer_occurs() {
     let mut seen = Seen::default();
     assert!(!seen.is_all());
     let mut generator = Generator::new(5);
-    for frames in [10_000, 100, 10, 1] {
+    for frames in [20_000, 100, 10, 1] {
         seen.line(&generator.line(frames)).unwrap();
     }
     assert!(seen.is_all(), "{seen}");
@@ -52,6 +52,7 @@ fn every_answer_occurs() {
     assert_eq!(seen.formats[1], seen.taken.iter().sum());
     assert_eq!(seen.formats[1], seen.shown.iter().sum());
     assert_eq!(seen.answers[10], seen.levels.iter().sum());
+    assert_eq!(seen.answers[3], seen.halves.lengths.iter().sum());
     assert!(seen.kept.iter().sum::<u64>() <= seen.shown[1] + seen.shown[2]);
     assert_eq!(seen.rows[..3].iter().sum::<u64>(), seen.sides.iter().sum());
 }

@@ -7,7 +7,7 @@ use second::listing::list;
 use second::walk::{walk, Kind, Line};
 
 /// Gives its bytes in pieces of a given size.
-struct Pieces<'a>(&'a [u8], usize);
+pub struct Pieces<'a>(pub &'a [u8], pub usize);
 
 impl Read for Pieces<'_> {
     fn read(&mut self, buffer: &mut [u8]) -> io::Result<usize> {

@@ -1,0 +1,118 @@
+//! The refusals of a closed line: a JSON object a line for each refused frame and for each run of skipped bytes, without
+//! blanks outside strings.
+
+use std::fmt;
+use std::io::{self, Read, Write};
+
+use crate::pieces::each_move;
+use crate::reading::{Answer, NoFrame, Refusal};
+
+/// The most bytes that are shown of a frame or a run.
+const SHOWN: usize = 64;
+
+/// Reads the input to its end and writes its refusals.
+pub fn tell<R: Read, W: Write>(input: R, mut output: W) -> io::Result<()> {
+    let mut run: Option<Row> = None;
+    each_move(input, |at, answer, bytes| {
+        if let Answer::NoFrame { .. } = answer {
+            run.get_or_insert_with(|| Row::new(at, answer)).add(bytes);
+            return Ok(());
+        }
+        if let Some(ended) = run.take() {
+            writeln!(output, "{ended}")?;
+        }
+        if let Answer::Refused { .. } = answer {
+            let mut row = Row::new(at, answer);
+            row.add(bytes);
+            writeln!(output, "{row}")?;
+        }
+        Ok(())
+    })?;
+    if let Some(ended) = run {
+        writeln!(output, "{ended}")?;
+    }
+    output.flush()
+}
+
+/// A refused frame, or a run of skipped bytes that may go on.
+struct Row {
+    at: u64,
+    answer: u8,
+    place: Option<usize>,
+    why: &'static str,
+    bytes: u64,
+    /// Its first bytes, as far as it has them.
+    first: [u8; SHOWN],
+}
+
+impl Row {
+    /// A row without bytes yet, with the answer at its first one.
+    fn new(at: u64, answer: &Answer) -> Row {
+        Row { at, answer: answer.number(), place: answer.place(), why: why(answer), bytes: 0, first: [0; SHOWN] }
+    }
+
+    fn add(&mut self, bytes: &[u8]) {
+        let shown = self.shown();
+        if shown < SHOWN {
+            let fitting = bytes.len().min(SHOWN - shown);
+            self.first[shown..shown + fitting].copy_from_slice(&bytes[..fitting]);
+        }
+        self.bytes += bytes.len() as u64;
+    }
+
+    /// How many of its bytes are shown.
+    fn shown(&self) -> usize {
+        self.bytes.min(SHOWN as u64) as usize
+    }
+}
+
+impl fmt::Display for Row {
+    fn fmt(&self, f: &mut fmt::Formatter) -> fmt::Result {
+        write!(f, "{{\"at\":{},\"answer\":{},\"bytes\":{},\"place\":", self.at, self.answer, self.bytes)?;
+        match self.place {
+            Some(place) => write!(f, "{place}"),
+            None => f.write_str("null"),
+        }?;
+        write!(f, ",\"hex\":\"{}\",\"why\":\"{}\"}}", hex(&self.first[..self.shown()]), self.why)
+    }
+}
+
+/// Two digits for each byte, in lower case.
+fn hex(bytes: &[u8]) -> String {
+    let halves = bytes.iter().flat_map(|byte| [byte >> 4, byte & 0x0F]);
+    halves.filter_map(|half| char::from_digit(u32::from(half), 16)).collect()
+}
+
+/// The words for an answer; an accepted frame has none.
+fn why(answer: &Answer) -> &'static str {
+    match *answer {
+        Answer::Accepted { .. } => "",
+        Answer::Refused { why, .. } => why_refused(why),
+        Answer::NoFrame { why: NoFrame::Length, place: Some(_) } => "the length has a bad digit",
+        Answer::NoFrame { why, .. } => why_skipped(why),
+    }
+}
+
+/// For a length: that its digits are good.
+fn why_skipped(why: NoFrame) -> &'static str {
+    match why {
+        NoFrame::NotAStart => "no frame begins here: the first byte is not 1B",
+        NoFrame::TooFewBytes => "the line ends before this frame does",
+        NoFrame::Length => "the length is below 14 or above 1024",
+        NoFrame::End => "the frame does not end in 0D 0A where its length says",
+        NoFrame::Check => "the check byte is not the exclusive-or of the bytes that it covers",
+    }
+}
+
+fn why_refused(why: Refusal) -> &'static str {
+    match why {
+        Refusal::HeaderDigit => "the header, bytes 4 to 10, has a bad digit",
+        Refusal::Format => "the business is not 01, or the format is not 05, 06, 12 or 19",
+        Refusal::Version => "the version is not that of the format",
+        Refusal::Length => "the length is not one that the format, or the reveal byte, allows",
+        Refusal::Levels => "the reveal byte has more than 5 levels on a side, or levels beside the trade alone",
+        Refusal::Digit => "a packed field of the body has a bad digit",
+        Refusal::Time => "a time breaks its rule",
+        Refusal::Field => "another field breaks its rule",
+    }
+}
