@@ -8,6 +8,7 @@ import machine
 # what an item of a part is
 ITEMS = {
     "reading": "a frame read, its message whole into memory that is used again",
+    "refused": "a frame with a bad digit read by its format's call, and the place told",
     "the answer alone": "a place read for its answer (the second program has one reading for all)",
     "writing": "a message written into a buffer that is used again",
     "arrivals": "an arrival at a ledger, which looks over its whole record at each",

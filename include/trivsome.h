@@ -8,21 +8,22 @@
  *
  * Every call answers with a number, 0 or the reason for a refusal, and carries figures above it, for which there are
  * functions below. Only trivsome_clear, trivsome_ledger_clear, trivsome_board_clear_all and the two calls on packed digits,
- * which refuse nothing, have no such number. The numbers are:
+ * which refuse nothing, have no such number. A reading has beside 6 to 13 the frame's length, and beside a bad digit its
+ * place: beside 6 and 11 always, beside 3 where a digit of the length is the cause (trivsome_bad_half). The numbers are:
  *
  *   reading and moving        0  accepted
  *                             1  no frame begins here: the first byte is not 27
  *                             2  the bytes end before the frame does
- *                             3  the length has a bad digit, or is outside 14 to 1,024
+ *                             3  the length has a bad digit, with its place, or is outside 14 to 1,024, without one
  *                             4  the frame does not end in 0D 0A
  *                             5  the check byte is another
- *                             6  a bad digit in bytes 4 to 10
+ *                             6  a bad digit in bytes 4 to 10, with its place
  *                             7  business not 01, or none of the four formats
  *                             8  another version of the format
  *                             9  a length that the format, or the reveal byte, does not allow
  *                            10  a quote with 6 or 7 levels on a side, or with levels where its reveal byte says that only the
  *                                trade is sent
- *                            11  a bad digit in the body
+ *                            11  a bad digit in the body, with its place
  *                            12  a time that breaks its rule
  *                            13  any other field that does
  *   writing                   0  written
@@ -93,7 +94,18 @@ static inline bool trivsome_is_halt(uint64_t outcome) { return trivsome_format(o
 static inline size_t trivsome_length(uint64_t outcome) { return (size_t)(outcome >> 16 & 65535); }
 
 /* Of a reading or a move: the number of an accepted frame, else 0. */
-static inline uint32_t trivsome_seq(uint64_t outcome) { return (uint32_t)(outcome >> 32); }
+static inline uint32_t trivsome_seq(uint64_t outcome) { return trivsome_answer(outcome) == 0 ? (uint32_t)(outcome >> 32) : 0; }
+
+/* Of a reading or a move: whether it tells the place of a bad digit, which 6 and 11 do, and 3 where a digit of the length is the
+ * cause; and which place, 0 where it tells none. The place is that of the first bad half byte, counted in halves from the frame's
+ * first byte, the 27: it is in byte place / 2, from 0, in the high half if place is even and in the low half if it is odd. Beside
+ * 3 it is 2 to 5, beside 6 it is 6 to 19, beside 11 it is 20 or more. A price's first half of 1 to 9 is a bad digit too. */
+static inline bool trivsome_bad_half(uint64_t outcome, size_t *place)
+{
+    uint32_t above = trivsome_answer(outcome) != 0 ? (uint32_t)(outcome >> 32) : 0; /* a place and one, or 0 for none */
+    *place = above != 0 ? above - 1 : 0;
+    return above != 0;
+}
 
 /* Of an arrival: the number is new. An answer of 0 that is not new is a repeat. */
 static inline bool trivsome_is_new(uint64_t outcome) { return outcome == 256; }

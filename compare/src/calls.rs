@@ -1,10 +1,11 @@
-//! One comparison: every packed byte, and lines read, messages written, lines walked, numbers recorded and quotes kept, all from
-//! one seed.
+//! One comparison: every packed byte, and lines read, bad digits put into their frames, messages written, lines walked, numbers
+//! recorded and quotes kept, all from one seed.
 
 use second::generate::Generator;
 use second::random::Random;
 
 use crate::arrivals::Arrivals;
+use crate::bad_halves::BadHalves;
 use crate::board::Boards;
 use crate::digits::Digits;
 use crate::reading::Readings;
@@ -28,6 +29,7 @@ pub fn compare(seed: u64, frames: usize) -> Result<(), String> {
     let mut random = Random::new(seed.rotate_left(32));
     let (mut readings, mut writings, mut walks) = (Readings::default(), Writings::default(), Walks::default());
     let (mut boards, mut other) = (Boards::default(), Random::new(seed.rotate_left(16)));
+    let (mut bad_halves, mut bad) = (BadHalves::new(), Random::new(seed.rotate_left(48)));
     let mut lines = 0;
     for start in (0..frames).step_by(LINE) {
         for frames in std::iter::once(LINE.min(frames - start)).chain((1..=SHORT_LINES).map(|short| 1 + short % 10)) {
@@ -35,12 +37,14 @@ pub fn compare(seed: u64, frames: usize) -> Result<(), String> {
             lines += 1;
             let within = |what: String| format!("line {lines}: {what}");
             let accepted = readings.line(&line).map_err(within)?;
+            bad_halves.line(&line, &accepted, &mut bad).map_err(within)?;
             writings.line(&line, &accepted, &mut random).map_err(within)?;
             walks.line(&line, &mut random).map_err(within)?;
             boards.line(&accepted, &mut other).map_err(within)?;
         }
     }
     println!("readings: {frames} frames in {lines} lines, {readings}");
+    println!("bad halves: {bad_halves}");
     println!("writings: {writings}");
     println!("walks: {walks}");
     let mut arrivals = Arrivals::default();
@@ -48,7 +52,7 @@ pub fn compare(seed: u64, frames: usize) -> Result<(), String> {
     println!("ledger: {arrivals}");
     boards.series(&mut other, frames)?;
     println!("boards: {boards}");
-    let of_lines = readings.missed().or(writings.missed()).or(walks.missed());
+    let of_lines = readings.missed().or(bad_halves.missed()).or(writings.missed()).or(walks.missed());
     match digits.missed().or(of_lines).or(arrivals.missed()).or(boards.missed()) {
         Some(what) if frames >= ENOUGH => Err(format!("{what} did not occur")),
         _ => Ok(()),

@@ -4,6 +4,7 @@
 //! Each part counts what occurred, and gives the first difference as a text that a person can follow.
 
 mod arrivals;
+mod bad_halves;
 mod board;
 mod board_calls;
 mod calls;

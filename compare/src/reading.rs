@@ -3,9 +3,10 @@
 
 use std::fmt;
 
+use second::halves::Halves;
 use second::reading::read_at;
 use second::seen::{around, cases, levels_case, shown_case, LEVELS, SHOWN};
-use second::{six, Message, Refusal};
+use second::{six, Message};
 use trivsome::{raw, Code, Halt, Notice, Pair, Price, Prices, Quantity, Quote};
 
 use crate::same::{self, differ, outcome, told};
@@ -14,6 +15,10 @@ use crate::same::{self, differ, outcome, told};
 const LENT: u8 = 0xA5;
 const LENT_NUMBER: u32 = 0xA5A5_A5A5;
 const LENT_TIME: u64 = 0xA5A5_A5A5_A5A5_A5A5;
+
+/// The answers for a length, and for level counts.
+const LENGTH: u8 = 3;
+const LEVEL_COUNTS: u8 = 10;
 
 /// A frame that was accepted: its place, its length and the second program's message of it.
 pub struct Accepted {
@@ -28,6 +33,8 @@ pub struct Readings {
     places: u64,
     /// By the answers' numbers, at every place.
     answers: [u64; 14],
+    /// Which bad halves were told.
+    halves: Halves,
     /// Frames refused with 10, by their case.
     levels: [u64; 3],
     /// Accepted frames of the formats five, six, twelve and nineteen.
@@ -131,8 +138,8 @@ fn same_sides(proved: &Quote, second: &six::Quote) -> Result<(), String> {
 }
 
 impl Readings {
-    /// Compares the readings at every place of a line and past its end, and of each frame with its line ending behind it or a
-    /// byte before. Gives the accepted frames.
+    /// Compares the readings at every place of a line and past its end, and of each frame and each wrong length with its line
+    /// ending behind it or a byte before. Gives the accepted frames.
     pub fn line(&mut self, line: &[u8]) -> Result<Vec<Accepted>, String> {
         let mut accepted = Vec::new();
         let fresh = Lent::default();
@@ -141,10 +148,11 @@ impl Readings {
             let answer = read_at(line, place);
             self.places += 1;
             self.answers[usize::from(answer.number())] += 1;
+            self.halves.add(&answer, line.get(place..).unwrap_or_default());
             self.one(line, place, &answer, &fresh).map_err(within)?;
-            if let Some(length) = answer.length() {
+            if let Some(length) = answer.length().or((answer.number() == LENGTH).then_some(3)) {
                 let end = place + length;
-                if matches!(answer, second::Answer::Refused { why: Refusal::Levels, .. }) {
+                if answer.number() == LEVEL_COUNTS {
                     self.levels[levels_case(&line[place..end])] += 1;
                 }
                 let cut = |end: usize| {
@@ -209,7 +217,8 @@ impl Readings {
         let answer = self.answers.iter().position(|&times| times == 0).map(|answer| format!("answer {answer}"));
         let mut cases = LEVELS.iter().zip(&self.levels).chain(SHOWN.iter().zip(&self.shown));
         let case = cases.find(|(_, times)| **times == 0).map(|(name, _)| format!("of quotes, {name}"));
-        answer.or(case).or_else(|| self.formats.contains(&0).then(|| "one of the formats".into()))
+        let format = self.formats.contains(&0).then(|| "one of the formats".into());
+        answer.or(case).or(format).or_else(|| self.halves.missed())
     }
 }
 
@@ -221,6 +230,7 @@ impl fmt::Display for Readings {
         f.write_str("; 10 for ")?;
         cases(f, &LEVELS, &self.levels)?;
         f.write_str("; quotes with ")?;
-        cases(f, &SHOWN, &self.shown)
+        cases(f, &SHOWN, &self.shown)?;
+        write!(f, "; {}", self.halves)
     }
 }

@@ -4,12 +4,18 @@ use std::fmt::Debug;
 
 use second::{board, five, nineteen, six, twelve};
 
-/// An outcome of a reading: answer, format, length and sequence number in one number.
+/// An outcome of a reading: answer, format and length in one number, and above them an accepted frame's number or the place of a
+/// refused one's bad half.
 pub fn outcome(answer: &second::Answer) -> u64 {
-    let message = answer.message();
-    let format = message.map_or(0, second::Message::format);
-    let seq = message.map_or(0, second::Message::number);
-    packed(answer.number(), format, answer.length().unwrap_or(0), seq)
+    moved(answer, answer.length().unwrap_or(0))
+}
+
+/// The same of a move, which has the bytes that it goes past for a length.
+pub fn moved(answer: &second::Answer, bytes: usize) -> u64 {
+    match answer.message() {
+        Some(message) => packed(0, message.format(), bytes, message.number()),
+        None => packed(answer.number(), 0, bytes, above(answer.place())),
+    }
 }
 
 /// What a reading of one format gives.
@@ -23,19 +29,38 @@ pub fn reading(answer: &second::Answer, format: u8) -> Result<trivsome::Frame, t
                 Err(trivsome::NotRead::OtherFormat(frame))
             }
         }
-        second::Answer::Refused { length, .. } => Err(trivsome::NotRead::Refused(answer.number(), length)),
-        second::Answer::NoFrame(_) => Err(trivsome::NotRead::NoFrame(answer.number())),
+        second::Answer::Refused { length, .. } => {
+            Err(trivsome::NotRead::Refused { number: answer.number(), length, bad_half: bad_half(answer) })
+        }
+        second::Answer::NoFrame { .. } => {
+            Err(trivsome::NotRead::NoFrame { number: answer.number(), bad_half: bad_half(answer) })
+        }
     }
 }
 
-pub fn packed(answer: u8, format: u8, length: usize, seq: u32) -> u64 {
-    u64::from(answer) | u64::from(format) << 8 | (length as u64) << 16 | u64::from(seq) << 32
+/// The place of a refusal's bad half, as the package has it.
+fn bad_half(answer: &second::Answer) -> Option<u16> {
+    answer.place().map(|place| place as u16)
+}
+
+pub fn packed(answer: u8, format: u8, length: usize, above: u32) -> u64 {
+    u64::from(answer) | u64::from(format) << 8 | (length as u64) << 16 | u64::from(above) << 32
+}
+
+/// What stands above a refusal's length: the place of its bad half and one, or 0 where it tells none.
+pub fn above(place: Option<usize>) -> u32 {
+    place.map_or(0, |place| place as u32 + 1)
 }
 
 /// An outcome in words.
 pub fn told(outcome: u64) -> String {
-    let (answer, format, length, seq) = (outcome & 255, outcome >> 8 & 255, outcome >> 16 & 65_535, outcome >> 32);
-    format!("answer {answer}, format {format}, length {length}, number {seq}")
+    let (answer, format, length, above) = (outcome & 255, outcome >> 8 & 255, outcome >> 16 & 65_535, outcome >> 32);
+    let above = match (answer, above) {
+        (0, seq) => format!("number {seq}"),
+        (_, 0) => "no bad half".into(),
+        (_, half) => format!("bad half {}", half - 1),
+    };
+    format!("answer {answer}, format {format}, length {length}, {above}")
 }
 
 /// The notice, if its text has 60 bytes at most.

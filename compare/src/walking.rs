@@ -7,7 +7,7 @@ use second::seen::around;
 use second::walk::{walk, Kind};
 use trivsome::raw;
 
-use crate::same::{differ, outcome, packed, told};
+use crate::same::{above, differ, moved, outcome, packed, told};
 
 /// How many pieces of a line are walked beside the whole of it, and their most bytes.
 const PIECES: usize = 20;
@@ -19,6 +19,8 @@ pub struct Walks {
     lines: u64,
     moves: u64,
     waits: u64,
+    /// Moves that told the place of a bad half, with 3, 6 and 11.
+    bad_halves: [u64; 3],
     /// Walks that moved a tally on, and those refused with 16.
     tallies: [u64; 2],
 }
@@ -65,9 +67,16 @@ impl Walks {
             }
             let bytes = if waiting { 0 } else { step.bytes };
             let (outcome, expected) =
-                (raw::move_at(line, step.place, ours == trivsome::Line::Closed), move_outcome(&step.answer, bytes));
+                (raw::move_at(line, step.place, ours == trivsome::Line::Closed), moved(&step.answer, bytes));
             if outcome != expected {
                 return Err(within(differ("the move's outcome", &told(outcome), &told(expected))));
+            }
+            if step.answer.place().is_some() {
+                self.bad_halves[match step.answer.number() {
+                    3 => 0,
+                    6 => 1,
+                    _ => 2,
+                }] += 1;
             }
             if waiting {
                 self.waits += 1;
@@ -130,29 +139,27 @@ impl Walks {
     /// What did not occur.
     pub fn missed(&self) -> Option<String> {
         let counts = [self.waits, self.tallies[0], self.tallies[1]];
-        counts.contains(&0).then(|| "a wait, or a tally's 0 or 16".into())
+        let half = self.bad_halves.contains(&0).then(|| "a move that tells the bad half of 3, 6 or 11".into());
+        half.or(counts.contains(&0).then(|| "a wait, or a tally's 0 or 16".into()))
     }
-}
-
-/// A move's outcome: as a reading's, but for the bytes that it goes past.
-fn move_outcome(answer: &second::Answer, bytes: usize) -> u64 {
-    let message = answer.message();
-    packed(answer.number(), message.map_or(0, |any| any.format()), bytes, message.map_or(0, |any| any.number()))
 }
 
 /// A move's answer as one number, as a reading has it.
 fn answer_of(answer: trivsome::Answer) -> u64 {
     match answer {
         trivsome::Answer::Accepted(frame) => packed(0, frame.format, frame.length, frame.seq),
-        trivsome::Answer::NoFrame(number) => packed(number, 0, 0, 0),
-        trivsome::Answer::Refused(number, length) => packed(number, 0, length, 0),
+        trivsome::Answer::NoFrame { number, bad_half } => packed(number, 0, 0, above(bad_half.map(usize::from))),
+        trivsome::Answer::Refused { number, length, bad_half } => {
+            packed(number, 0, length, above(bad_half.map(usize::from)))
+        }
     }
 }
 
 impl fmt::Display for Walks {
     fn fmt(&self, f: &mut fmt::Formatter) -> fmt::Result {
         let [moved, refused] = self.tallies;
+        let [length, header, body] = self.bad_halves;
         write!(f, "{} lines and pieces, {} moves, {} waits; ", self.lines, self.moves, self.waits)?;
-        write!(f, "tallies 0:{moved} 16:{refused}")
+        write!(f, "bad halves 3:{length} 6:{header} 11:{body}; tallies 0:{moved} 16:{refused}")
     }
 }

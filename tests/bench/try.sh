@@ -30,6 +30,7 @@ for way in reading writing; do
     part $way 'five, text of 8' 'five, text of 60' 'six, no pairs' 'six, 9 pairs' 'six, 11 pairs' 'six, any pairs' \
         'six, the trade alone' 'twelve, 10 slots' nineteen
 done
+part refused 'six, 9 pairs, first digit bad' 'six, 9 pairs, last digit bad' 'twelve, 10 slots, last digit bad'
 part 'the answer alone' 'six, 9 pairs' 'six, 9 pairs, check byte wrong' 'noise, at each of its bytes'
 part arrivals 'in order' 'with gaps' 'half of them late' 'in order, 64 runs open' 'repeats, 64 runs open' 'refused with 22' \
     'in order, above a floor' 'in order, a floor and 63 runs open' 'late, at or below the floor' 'give up and go on'

@@ -1,17 +1,6 @@
 // Tries the calls of include/trivsome.h at their edges. What is expected is written by hand from docs/RULES.md. Prints each line
 // that does not hold, and ends with status 1 if there was one.
-#include "common.h"
-
-static bool filled(const void *memory, size_t size)
-{
-    const uint8_t *bytes = memory;
-    for (size_t i = 0; i < size; i++)
-        if (bytes[i] != 0xA5) return false;
-    return true;
-}
-
-#define FILL(thing) memset(&(thing), 0xA5, sizeof(thing))
-#define FILLED(thing) filled(&(thing), sizeof(thing))
+#include "frames.h"
 
 // What the two calls say of a quote's sides, with counts that held something else before.
 static bool lists(const trivsome_quote *quote, bool shown, unsigned bids, unsigned asks)
@@ -20,33 +9,12 @@ static bool lists(const trivsome_quote *quote, bool shown, unsigned bids, unsign
     return trivsome_bids(quote, &b) == shown && trivsome_asks(quote, &a) == shown && b == bids && a == asks;
 }
 
-// The halt of docs/RULES.md, and the specification's fourth example of a quote with the check byte that the rule gives.
-static const uint8_t HALT[26] = {0x1B, 0x00, 0x26, 0x01, 0x19, 0x01, 0x00, 0x00, 0x00, 0x01, 0x31, 0x32, 0x33, 0x34,
-                                 0x20, 0x20, 0x10, 0x05, 0x00, 0x99, 0x99, 0x99, 0x49, 0xFF, 0x0D, 0x0A};
-static const uint8_t QUOTE[41] = {0x1B, 0x00, 0x41, 0x01, 0x06, 0x04, 0x00, 0x00, 0x83, 0x25, 0x31, 0x33, 0x30, 0x31,
-                                  0x20, 0x20, 0x09, 0x45, 0x19, 0x03, 0x30, 0x17, 0x80, 0x81, 0x00, 0x00, 0x00, 0x15,
-                                  0x58, 0x00, 0x00, 0x33, 0x50, 0x00, 0x00, 0x00, 0x00, 0x00, 0xB9, 0x0D, 0x0A};
-// The same with only the trade sent, and with not even that.
+// The quote of frames.h with only the trade sent, and with not even that.
 static const uint8_t TRADE_ONLY[41] = {0x1B, 0x00, 0x41, 0x01, 0x06, 0x04, 0x00, 0x00, 0x83, 0x25, 0x31, 0x33, 0x30, 0x31,
                                        0x20, 0x20, 0x09, 0x45, 0x19, 0x03, 0x30, 0x17, 0x81, 0x81, 0x00, 0x00, 0x00, 0x15,
                                        0x58, 0x00, 0x00, 0x33, 0x50, 0x00, 0x00, 0x00, 0x00, 0x00, 0xB8, 0x0D, 0x0A};
 static const uint8_t NO_PAIR[32] = {0x1B, 0x00, 0x32, 0x01, 0x06, 0x04, 0x00, 0x00, 0x83, 0x25, 0x31, 0x33, 0x30, 0x31, 0x20, 0x20,
                                     0x09, 0x45, 0x19, 0x03, 0x30, 0x17, 0x01, 0x81, 0x00, 0x00, 0x00, 0x15, 0x58, 0x28, 0x0D, 0x0A};
-
-// All five readings answer the same, and leave their structs as they were.
-static void refused(const uint8_t *line, size_t length, size_t at, uint64_t expected)
-{
-    trivsome_notice notice;
-    trivsome_quote quote;
-    trivsome_prices prices;
-    trivsome_halt halt;
-    FILL(notice), FILL(quote), FILL(prices), FILL(halt);
-    HOLDS(trivsome_read(line, length, at) == expected);
-    HOLDS(trivsome_read_notice(line, length, at, &notice) == expected && FILLED(notice));
-    HOLDS(trivsome_read_quote(line, length, at, &quote) == expected && FILLED(quote));
-    HOLDS(trivsome_read_prices(line, length, at, &prices) == expected && FILLED(prices));
-    HOLDS(trivsome_read_halt(line, length, at, &halt) == expected && FILLED(halt));
-}
 
 static void reading(void)
 {
@@ -55,7 +23,8 @@ static void reading(void)
     refused(NULL, 0, 0, 2);
     refused(NULL, 0, SIZE_MAX, 2);
     refused((const uint8_t *)"\x1B\x0A", 2, 0, 2);
-    refused((const uint8_t *)"\x1B\x0A\x14", 3, 0, 3);
+    refused((const uint8_t *)"\x1B\x0A\x14", 3, 0, refusal(3, 0, 3));
+    refused((const uint8_t *)"\x1B\x00\x13", 3, 0, 3);
     refused((const uint8_t *)"\x41", 1, 0, 1);
     refused(NOTICE, 13, 0, 2);
     refused(NOTICE, 14, 1, 1);

@@ -53,6 +53,7 @@ touch "$work/before"
 echo 'int main() { return 0; }' >"$work/none.c"
 cc -std=c11 -pedantic -Wall -Wextra -Werror -fsyntax-only -x c "$header" || differs "the header is not C11"
 tried cc -std=c11 tests/library/calls.c
+tried cc -std=c11 tests/library/bad_halves.c
 if command -v c++ >/dev/null; then
     c++ -std=c++11 -pedantic -Wall -Wextra -Werror -fsyntax-only -x c++ "$header" || differs "the header is not C++"
     tried c++ -std=c++11 tests/library/vectors.cc
@@ -62,7 +63,7 @@ for example in quotes board; do
     compiled $example cc -std=c11 examples/$example.c
     expect 0 "$work/$example" samples/capture >"$work/out"
     cmp "$work/out" tests/library/$example || differs "$example prints something else of samples/capture"
-    for name in listing messages gaps board; do
+    for name in listing messages refusals gaps board; do
         line=$(python3 tests/reference/stored.py $name)/stdin
         python3 tests/library/make.py $example $line >"$work/expected" || differs "tests/library/make.py failed"
         expect 0 "$work/$example" $line >"$work/out" 2>"$work/said"

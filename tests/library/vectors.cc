@@ -46,6 +46,18 @@ static void there_and_back()
     HOLDS(trivsome_is_quote(trivsome_read_quote(frame.data(), frame.size(), 0, &same)) && same.levels == TRIVSOME_LEVELS_NOT_SHOWN);
 }
 
+// A bad digit in a vector: its place, and the frame's number is none.
+static void bad_digits()
+{
+    Bytes frame(NOTICE, NOTICE + 14);
+    size_t place = 99;
+    HOLDS(!trivsome_bad_half(trivsome_read(frame.data(), frame.size(), 0), &place) && place == 0);
+    frame[10] = 0xA9, frame[11] ^= 0xA0;
+    uint64_t read = trivsome_read(frame.data(), frame.size(), 0);
+    HOLDS(read == refusal(11, 14, 20) && trivsome_bad_half(read, &place) && place == 20);
+    HOLDS(trivsome_length(read) == 14 && trivsome_seq(read) == 0 && frame[place / 2] >> 4 == 0xA);
+}
+
 static void ledger()
 {
     trivsome_ledger ledger = {};
@@ -99,6 +111,7 @@ int main()
     nothing(empty.data());
     nothing(nullptr);
     there_and_back();
+    bad_digits();
     ledger();
     boards();
     digits();

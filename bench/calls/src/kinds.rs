@@ -40,6 +40,7 @@ impl Kind {
 }
 
 pub const TYPICAL: &str = "six, 9 pairs";
+pub const SLOTS: &str = "twelve, 10 slots";
 
 /// All kinds.
 pub fn kinds() -> Result<Vec<Kind>, String> {
@@ -54,7 +55,7 @@ pub fn kinds() -> Result<Vec<Kind>, String> {
             quote(random, number, reveal)
         })?,
         Kind::new("six, the trade alone", 13, |random, number| quote(random, number, TRADE_ALONE))?,
-        Kind::new("twelve, 10 slots", 7, prices)?,
+        Kind::new(SLOTS, 7, prices)?,
         Kind::new("nineteen", 8, halt)?,
     ])
 }

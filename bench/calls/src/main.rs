@@ -1,11 +1,12 @@
-//! Times the calls of the proved library beside the second program's: reading, writing, arrivals, a board, the walk of a line
-//! and packed digits. Prints for each a line of words parted by tabs: part, name, bytes, proved and second nanoseconds.
+//! Times the calls of the proved library beside the second program's: reading, also of frames with a bad digit, writing, arrivals,
+//! a board, the walk of a line and packed digits. Prints for each a line of words parted by tabs: part, name, bytes, proved and second nanoseconds.
 
 mod arrivals;
 mod board;
 mod digits;
 mod kinds;
 mod reading;
+mod refused;
 mod timing;
 mod walking;
 mod writing;
@@ -27,6 +28,7 @@ fn run(effort: Effort) -> Result<(), String> {
     for kind in &kinds {
         print(&reading::reading(effort, kind)?);
     }
+    refused::refused(effort, &kinds)?.iter().for_each(print);
     reading::alone(effort, &kinds)?.iter().for_each(print);
     for kind in &kinds {
         print(&writing::writing(effort, kind)?);

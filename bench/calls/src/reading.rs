@@ -106,7 +106,7 @@ fn seconds(line: &[u8], places: &[usize]) -> u64 {
 }
 
 /// Both give the same answer and the same message.
-fn agree(line: &[u8], place: usize) -> Result<(), String> {
+pub fn agree(line: &[u8], place: usize) -> Result<(), String> {
     let answer = read_at(line, place);
     let (proved, expected) = (trivsome::raw::read(line, place), same::outcome(&answer));
     if proved != expected {

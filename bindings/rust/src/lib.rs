@@ -23,6 +23,17 @@
 //! assert_eq!(why.to_string(), "another format: 5");
 //! ```
 //!
+//! Where a digit is bad, an answer tells where the first one is, in half bytes from the frame's first byte on:
+//!
+//! ```
+//! # let mut notice = [0x1B, 0x00, 0x14, 0x01, 0x05, 0x01, 0x00, 0x00, 0x00, 0x01, 0x09, 0x19, 0x0D, 0x0A];
+//! notice[10] ^= 0x03; // the category, a byte of two digits, is now 0A
+//! notice[11] ^= 0x03; // and the check byte goes with it
+//! let why = trivsome::read(&notice, 0).answer();
+//! assert_eq!((why.number(), why.length(), why.bad_half()), (11, 14, Some(21)));
+//! assert_eq!(why.to_string(), "11: a bad digit in the body, at half 21 (byte 10, low)");
+//! ```
+//!
 //! A board keeps what the quotes of each stock said last, and its sides through quotes that send only their trade:
 //!
 //! ```

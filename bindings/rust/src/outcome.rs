@@ -4,7 +4,8 @@ use std::fmt;
 
 use crate::raw;
 
-/// A reading's answer as the library gives it: its number in the rules, format, length and sequence number in one number.
+/// A reading's answer as the library gives it: its number in the rules, format and length in one number, and above them the
+/// sequence number of an accepted frame, or the place of a refused one's bad digit.
 #[derive(Clone, Copy, PartialEq, Eq, Hash)]
 #[repr(transparent)]
 pub struct Outcome(u64);
@@ -25,19 +26,43 @@ pub struct Frame {
 pub enum Answer {
     /// 0.
     Accepted(Frame),
-    /// 1 to 5, the number alone: no whole frame stands here.
-    NoFrame(u8),
-    /// 6 to 13, with the length: a whole frame that breaks a rule.
-    Refused(u8, usize),
+    /// 1 to 5: no whole frame stands here.
+    NoFrame {
+        /// The number in the rules.
+        number: u8,
+        /// Beside 3 where a digit of the length is bad: its place, as of [`Outcome::bad_half`].
+        bad_half: Option<u16>,
+    },
+    /// 6 to 13: a whole frame that breaks a rule.
+    Refused {
+        /// The number in the rules.
+        number: u8,
+        /// The frame's whole length in bytes.
+        length: usize,
+        /// Beside 6 and 11: the bad digit's place, as of [`Outcome::bad_half`].
+        bad_half: Option<u16>,
+    },
 }
 
 /// Why a reading of one format gives no message. What was lent is as it came.
 #[derive(Clone, Copy, Debug, PartialEq, Eq, Hash)]
 pub enum NotRead {
-    /// 1 to 5, the number alone: no whole frame stands here.
-    NoFrame(u8),
-    /// 6 to 13, with the length: a whole frame that breaks a rule.
-    Refused(u8, usize),
+    /// 1 to 5: no whole frame stands here.
+    NoFrame {
+        /// The number in the rules.
+        number: u8,
+        /// Beside 3 where a digit of the length is bad: its place, as of [`Outcome::bad_half`].
+        bad_half: Option<u16>,
+    },
+    /// 6 to 13: a whole frame that breaks a rule.
+    Refused {
+        /// The number in the rules.
+        number: u8,
+        /// The frame's whole length in bytes.
+        length: usize,
+        /// Beside 6 and 11: the bad digit's place, as of [`Outcome::bad_half`].
+        bad_half: Option<u16>,
+    },
     /// An accepted frame, which is of another format.
     OtherFormat(Frame),
 }
@@ -84,6 +109,28 @@ impl Outcome {
     /// The number of an accepted frame, else 0.
     #[inline]
     pub fn seq(self) -> u32 {
+        if self.number() == 0 {
+            self.above()
+        } else {
+            0
+        }
+    }
+
+    /// The place of the first bad digit: for 6 and 11, and for 3 where a digit of the length is the cause.
+    ///
+    /// Places are half bytes, counted from the frame's first byte, the 27: byte `place / 2`, from 0, has it in its high half if
+    /// `place` is even, and in its low half if it is odd. A price's first half of 1 to 9 is a bad digit too.
+    #[inline]
+    pub fn bad_half(self) -> Option<u16> {
+        match self.number() {
+            0 => None,
+            _ => (self.above() as u16).checked_sub(1),
+        }
+    }
+
+    /// What stands above the length: an accepted frame's number; of a refusal a place and one, or 0 for none.
+    #[inline]
+    fn above(self) -> u32 {
         (self.0 >> 32) as u32
     }
 
@@ -98,14 +145,15 @@ impl Outcome {
     pub fn answer(self) -> Answer {
         match self.number() {
             0 => Answer::Accepted(self.frame()),
-            number @ 1..=5 => Answer::NoFrame(number),
-            number => Answer::Refused(number, self.length()),
+            number @ 1..=5 => Answer::NoFrame { number, bad_half: self.bad_half() },
+            number => Answer::Refused { number, length: self.length(), bad_half: self.bad_half() },
         }
     }
 
+    /// Of an accepted frame.
     #[inline]
     fn frame(self) -> Frame {
-        Frame { format: self.format(), seq: self.seq(), length: self.length() }
+        Frame { format: self.format(), seq: self.above(), length: self.length() }
     }
 
     /// The accepted frame, if it is of this format.
@@ -116,8 +164,8 @@ impl Outcome {
         }
         Err(match self.answer() {
             Answer::Accepted(frame) => NotRead::OtherFormat(frame),
-            Answer::NoFrame(number) => NotRead::NoFrame(number),
-            Answer::Refused(number, length) => NotRead::Refused(number, length),
+            Answer::NoFrame { number, bad_half } => NotRead::NoFrame { number, bad_half },
+            Answer::Refused { number, length, bad_half } => NotRead::Refused { number, length, bad_half },
         })
     }
 }
@@ -134,7 +182,7 @@ impl Answer {
     pub fn number(self) -> u8 {
         match self {
             Answer::Accepted(_) => 0,
-            Answer::NoFrame(number) | Answer::Refused(number, _) => number,
+            Answer::NoFrame { number, .. } | Answer::Refused { number, .. } => number,
         }
     }
 
@@ -143,8 +191,17 @@ impl Answer {
     pub fn length(self) -> usize {
         match self {
             Answer::Accepted(frame) => frame.length,
-            Answer::NoFrame(_) => 0,
-            Answer::Refused(_, length) => length,
+            Answer::NoFrame { .. } => 0,
+            Answer::Refused { length, .. } => length,
+        }
+    }
+
+    /// The place of the first bad digit, as of [`Outcome::bad_half`].
+    #[inline]
+    pub fn bad_half(self) -> Option<u16> {
+        match self {
+            Answer::Accepted(_) => None,
+            Answer::NoFrame { bad_half, .. } | Answer::Refused { bad_half, .. } => bad_half,
         }
     }
 }
@@ -155,7 +212,8 @@ impl fmt::Display for Answer {
             0 => "accepted",
             1 => "the first byte is not 27",
             2 => "there are too few bytes",
-            3 => "a length with a bad digit or outside 14 to 1,024",
+            3 if self.bad_half().is_some() => "a bad digit in the length",
+            3 => "a length outside 14 to 1,024",
             4 => "the last two bytes are not 0D 0A",
             5 => "another check byte",
             6 => "a bad digit in the header",
@@ -167,7 +225,9 @@ impl fmt::Display for Answer {
             12 => "a time that breaks its rule",
             _ => "a field that breaks its rule",
         };
-        write!(f, "{}: {why}", self.number())
+        write!(f, "{}: {why}", self.number())?;
+        let Some(half) = self.bad_half() else { return Ok(()) };
+        write!(f, ", at half {half} (byte {}, {})", half / 2, ["high", "low"][usize::from(half % 2)])
     }
 }
 
@@ -178,10 +238,16 @@ impl NotRead {
     #[inline]
     pub fn answer(self) -> Answer {
         match self {
-            NotRead::NoFrame(number) => Answer::NoFrame(number),
-            NotRead::Refused(number, length) => Answer::Refused(number, length),
+            NotRead::NoFrame { number, bad_half } => Answer::NoFrame { number, bad_half },
+            NotRead::Refused { number, length, bad_half } => Answer::Refused { number, length, bad_half },
             NotRead::OtherFormat(frame) => Answer::Accepted(frame),
         }
+    }
+
+    /// The place of the first bad digit, as of [`Outcome::bad_half`].
+    #[inline]
+    pub fn bad_half(self) -> Option<u16> {
+        self.answer().bad_half()
     }
 }
 

@@ -1,10 +1,11 @@
 //! The calls of the proved library as they are, lent Rust's own references. All unsafe code of the package is here.
 //!
 //! An outcome is one number: the answer in bits 0 to 7, and above it what the call tells beside it. Of a reading and a move
-//! these are the format (8 to 15), the length or the bytes gone past (16 to 31) and the sequence number (32 to 63); of a
-//! writing the length; of a figure the figure, and of a board how many rows are in use; of a run, also of one that is given
-//! up, its first number (8 to 35) and its last (36 to 63); of an arrival how many numbers more are heard. A refused call leaves
-//! what it was lent as it came. Clearing a ledger and the calls on packed digits refuse nothing, and have no outcome.
+//! these are the format (8 to 15), the length or the bytes gone past (16 to 31), and in bits 32 to 63 an accepted frame's
+//! sequence number, or beside 1 to 13 the place of the first bad half byte plus one, 0 where no place is told. Of a writing it
+//! is the length; of a figure the figure, and of a board how many rows are in use; of a run, also of one that is given up, its
+//! first number (8 to 35) and its last (36 to 63); of an arrival how many numbers more are heard. A refused call leaves what it
+//! was lent as it came. Clearing a ledger and the calls on packed digits refuse nothing, and have no outcome.
 #![allow(unsafe_code)]
 
 use std::mem::{offset_of, size_of};

@@ -28,7 +28,7 @@ pub struct Move {
     pub at: usize,
     /// How many bytes it goes past.
     pub bytes: usize,
-    /// What the reading said there.
+    /// What the reading said there, with the place of a bad digit.
     pub answer: Answer,
 }
 

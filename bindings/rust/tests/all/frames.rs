@@ -1,4 +1,6 @@
-//! The frames that the tests share, and a check byte worked out anew.
+//! The frames that the tests share, a check byte worked out anew, and refusals that tell no place.
+
+use trivsome::{Answer, NotRead};
 
 /// A notice of category 09 without text, number 1.
 pub const NOTICE: [u8; 14] = [0x1B, 0x00, 0x14, 0x01, 0x05, 0x01, 0x00, 0x00, 0x00, 0x01, 0x09, 0x19, 0x0D, 0x0A];
@@ -30,4 +32,35 @@ pub fn quote(reveal: u8, pairs: u8) -> Vec<u8> {
         body.extend([0, 0, 0, 0, digits, 0, 0, digits >> 4, digits << 4]);
     }
     around(6, 4, &body)
+}
+
+/// Prices of one stock, number 7: the opening price ends in the first of four digits, the highest in the second, and so on.
+pub fn prices(lasts: [u8; 4]) -> Vec<u8> {
+    let mut body = vec![0x01];
+    body.extend(b"2330  ");
+    for last in lasts {
+        body.extend([0x09, 0, 0, 0, last]);
+    }
+    body.extend([0x99, 0x99, 0x99, 0x99]);
+    body.extend([0x99; 6]);
+    for _ in 1..10 {
+        body.extend(b"      ");
+        body.extend([0; 30]);
+    }
+    around(0x12, 3, &body)
+}
+
+/// The answer 1 to 5 without a place.
+pub fn no_frame(number: u8) -> Answer {
+    Answer::NoFrame { number, bad_half: None }
+}
+
+/// The answer 6 to 13 without a place.
+pub fn refused(number: u8, length: usize) -> Answer {
+    Answer::Refused { number, length, bad_half: None }
+}
+
+/// The same of a reading of one format.
+pub fn not_read(number: u8, length: usize) -> NotRead {
+    NotRead::Refused { number, length, bad_half: None }
 }

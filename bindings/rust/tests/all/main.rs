@@ -1,5 +1,6 @@
 //! The wrapper on the edges of docs/RULES.md, with what is expected worked out by hand.
 
+mod bad_halves;
 mod board;
 mod digits;
 mod frames;

@@ -1,6 +1,6 @@
 use trivsome::*;
 
-use crate::frames::{around, quote, HALT, NOTICE};
+use crate::frames::{around, no_frame, not_read, prices, quote, refused, HALT, NOTICE};
 
 fn number(line: &[u8]) -> u8 {
     read(line, 0).number()
@@ -8,11 +8,11 @@ fn number(line: &[u8]) -> u8 {
 
 #[test]
 fn there_are_too_few_bytes_or_none() {
-    assert_eq!(read(&[], 0).answer(), Answer::NoFrame(2));
+    assert_eq!(read(&[], 0).answer(), no_frame(2));
     assert_eq!(number(&[0x1B, 0x0A]), 2);
     assert_eq!(number(&NOTICE[..13]), 2);
-    assert_eq!(read(&NOTICE, 14).answer(), Answer::NoFrame(2));
-    assert_eq!(read(&NOTICE, usize::MAX).answer(), Answer::NoFrame(2));
+    assert_eq!(read(&NOTICE, 14).answer(), no_frame(2));
+    assert_eq!(read(&NOTICE, usize::MAX).answer(), no_frame(2));
 }
 
 #[test]
@@ -36,24 +36,24 @@ fn the_smallest_notice() {
 fn its_end_and_its_check_byte() {
     let mut other = NOTICE;
     other[11] = 0x18;
-    assert_eq!(read(&other, 0).answer(), Answer::NoFrame(5));
+    assert_eq!(read(&other, 0).answer(), no_frame(5));
     other = NOTICE;
     other[13] = 0x0B;
-    assert_eq!(read(&other, 0).answer(), Answer::NoFrame(4));
+    assert_eq!(read(&other, 0).answer(), no_frame(4));
 }
 
 #[test]
 fn refusals_tell_the_length() {
-    let refused = |format, version, body: &[u8]| read(&around(format, version, body), 0).answer();
-    assert_eq!(refused(0x0A, 1, &[0x09]), Answer::Refused(6, 14));
-    assert_eq!(refused(0x07, 1, &[0x09]), Answer::Refused(7, 14));
-    assert_eq!(refused(0x05, 2, &[0x09]), Answer::Refused(8, 14));
-    assert_eq!(refused(0x19, 1, &[0x09]), Answer::Refused(9, 14));
-    assert_eq!(refused(0x05, 1, &[0x0A]), Answer::Refused(11, 14));
-    assert_eq!(refused(0x05, 1, &[0x08, 0x41]), Answer::Refused(13, 15));
+    let answer = |format, version, body: &[u8]| read(&around(format, version, body), 0).answer();
+    assert_eq!(answer(0x0A, 1, &[0x09]), Answer::Refused { number: 6, length: 14, bad_half: Some(9) });
+    assert_eq!(answer(0x07, 1, &[0x09]), refused(7, 14));
+    assert_eq!(answer(0x05, 2, &[0x09]), refused(8, 14));
+    assert_eq!(answer(0x19, 1, &[0x09]), refused(9, 14));
+    assert_eq!(answer(0x05, 1, &[0x0A]), Answer::Refused { number: 11, length: 14, bad_half: Some(21) });
+    assert_eq!(answer(0x05, 1, &[0x08, 0x41]), refused(13, 15));
     let mut halt = HALT[10..23].to_vec();
     halt[6] = 0x24;
-    assert_eq!(refused(0x19, 1, &halt), Answer::Refused(12, 26));
+    assert_eq!(answer(0x19, 1, &halt), refused(12, 26));
 }
 
 #[test]
@@ -92,8 +92,8 @@ fn all_pairs_none_and_too_many() {
     assert_eq!((frame.length, all.asks[4].price), (131, Price(11)));
     let (frame, none) = read_quote(&quote(0x00, 0), 0).expect("accepted");
     assert_eq!((frame.length, none.trade(), none.bids(), none.asks()), (32, None, Some(&[][..]), Some(&[][..])));
-    assert_eq!(read_quote(&quote(0x60, 6), 0), Err(NotRead::Refused(10, 86)));
-    assert_eq!(read_quote(&quote(0xA2, 3), 0), Err(NotRead::Refused(9, 59)));
+    assert_eq!(read_quote(&quote(0x60, 6), 0), Err(not_read(10, 86)));
+    assert_eq!(read_quote(&quote(0xA2, 3), 0), Err(not_read(9, 59)));
 }
 
 #[test]
@@ -114,40 +114,29 @@ fn levels_that_are_not_shown_are_not_none() {
 
 #[test]
 fn levels_where_none_are_shown_answer_10() {
-    let refused = |reveal, pairs| read_quote(&quote(reveal, pairs), 0).expect_err("refused");
+    let why = |reveal, pairs| read_quote(&quote(reveal, pairs), 0).expect_err("refused");
     // an ask, a bid, both, all; with a trade and without; with as many pairs as the counts say
     for (reveal, pairs) in [(0x03, 1), (0x11, 1), (0x13, 2), (0x83, 2), (0x91, 2), (0xA3, 4), (0x5B, 10), (0xDB, 11)] {
-        assert_eq!(refused(reveal, pairs), NotRead::Refused(10, 32 + 9 * usize::from(pairs)));
+        assert_eq!(why(reveal, pairs), not_read(10, 32 + 9 * usize::from(pairs)));
     }
     // before the length that the reveal byte gives, and behind the lengths of the format
-    assert_eq!(refused(0xA3, 0), NotRead::Refused(10, 32));
-    assert_eq!(refused(0xA3, 12), NotRead::Refused(9, 140));
-    assert_eq!(refused(0x81, 0), NotRead::Refused(9, 32));
-    assert_eq!(refused(0x01, 1), NotRead::Refused(9, 41));
+    assert_eq!(why(0xA3, 0), not_read(10, 32));
+    assert_eq!(why(0xA3, 12), not_read(9, 140));
+    assert_eq!(why(0x81, 0), not_read(9, 32));
+    assert_eq!(why(0x01, 1), not_read(9, 41));
     // before a bad digit and a wrong time, which with the levels shown answer
-    for (at, byte, number) in [(15, 0x0A, 11), (6, 0x24, 12)] {
+    for (at, byte, number, bad_half) in [(15, 0x0A, 11, Some(51)), (6, 0x24, 12, None)] {
         let mut body = quote(0x11, 1)[10..38].to_vec();
         body[at] = byte;
-        assert_eq!(read(&around(6, 4, &body), 0).answer(), Answer::Refused(10, 41));
+        assert_eq!(read(&around(6, 4, &body), 0).answer(), refused(10, 41));
         body[12] = 0x10;
-        assert_eq!(read(&around(6, 4, &body), 0).answer(), Answer::Refused(number, 41));
+        assert_eq!(read(&around(6, 4, &body), 0).answer(), Answer::Refused { number, length: 41, bad_half });
     }
 }
 
 #[test]
 fn prices_of_one_stock() {
-    let mut body = vec![0x01];
-    body.extend(b"2330  ");
-    for last in [1, 3, 0, 2] {
-        body.extend([0x09, 0, 0, 0, last]);
-    }
-    body.extend([0x99, 0x99, 0x99, 0x99]);
-    body.extend([0x99; 6]);
-    for _ in 1..10 {
-        body.extend(b"      ");
-        body.extend([0; 30]);
-    }
-    let frame = around(0x12, 3, &body);
+    let frame = prices([1, 3, 0, 2]);
     let (_, prices) = read_prices(&frame, 0).expect("accepted");
     let [opening, highest, lowest, last] = [1, 3, 0, 2].map(|last| Price(900_000_000 + last));
     let amounts = Amounts { opening, highest, lowest, last, total: Quantity(99_999_999) };
@@ -205,6 +194,6 @@ fn a_frame_of_another_format_is_told_and_leaves_what_was_lent() {
 fn a_refusal_leaves_what_was_lent() {
     let lent = Quote { seq: 5, time: 6, code: Code(*b"ABCDEF"), reveal: 7, total: Quantity(8), ..Quote::default() };
     let mut quote = lent;
-    assert_eq!(read_quote_into(&NOTICE[..13], 0, &mut quote), Err(NotRead::NoFrame(2)));
+    assert_eq!(read_quote_into(&NOTICE[..13], 0, &mut quote), Err(NotRead::NoFrame { number: 2, bad_half: None }));
     assert_eq!(quote, lent);
 }

@@ -1,6 +1,6 @@
 use trivsome::*;
 
-use crate::frames::NOTICE;
+use crate::frames::{no_frame, NOTICE};
 
 /// Two bytes of noise, a notice, and one that is cut.
 fn line() -> Vec<u8> {
@@ -12,8 +12,8 @@ fn an_open_line_waits() {
     let line = line();
     let mut moves = Moves::new(&line, Line::Open);
     let accepted = Answer::Accepted(Frame { format: 5, seq: 1, length: 14 });
-    assert_eq!(moves.next(), Some(Move { at: 0, bytes: 1, answer: Answer::NoFrame(1) }));
-    assert_eq!(moves.next(), Some(Move { at: 1, bytes: 1, answer: Answer::NoFrame(1) }));
+    assert_eq!(moves.next(), Some(Move { at: 0, bytes: 1, answer: no_frame(1) }));
+    assert_eq!(moves.next(), Some(Move { at: 1, bytes: 1, answer: no_frame(1) }));
     assert_eq!(moves.next(), Some(Move { at: 2, bytes: 14, answer: accepted }));
     assert_eq!(moves.next(), None);
     assert_eq!(moves.rest(), &NOTICE[..5]);
@@ -26,7 +26,7 @@ fn an_open_line_waits() {
 fn a_closed_line_does_not() {
     let line = line();
     let mut moves = Moves::new(&line, Line::Closed);
-    assert_eq!(moves.by_ref().last(), Some(Move { at: 20, bytes: 1, answer: Answer::NoFrame(1) }));
+    assert_eq!(moves.by_ref().last(), Some(Move { at: 20, bytes: 1, answer: no_frame(1) }));
     assert_eq!(moves.rest(), &[]);
     let mut tally = Tally { accepted: 1, refused: 2, skipped: 3, waiting: 4 };
     assert_eq!(tally.walk(&line, Line::Closed), Ok(()));
