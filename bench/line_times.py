@@ -12,7 +12,7 @@ import machine
 
 WORK = machine.ROOT / "target" / "bench"
 MB = 10 ** 6
-NAMES = "listing", "messages", "gaps", "board"
+NAMES = "listing", "messages", "refusals", "gaps", "board"
 
 
 # ---------------------------------------------------------------------------------------------------------------------
@@ -33,16 +33,24 @@ def quote(seq, chance):
     return b"\x1b" + inner + bytes([check]) + b"\r\n"
 
 
+def spoiled(frame):
+    """The same frame with a bad digit in the last half of its body, and its check byte right."""
+    bad = frame[-4] | 0x0F
+    return frame[:-4] + bytes([bad, frame[-3] ^ frame[-4] ^ bad]) + frame[-2:]
+
+
 def lines(quick, most):
     """Name, what is repeated, and how many bytes of it, for good frames some MB at most."""
     chance = random.Random(1)
-    good = b"".join(quote(seq, chance) for seq in range(1, 2001 if quick else 20001))
+    quotes = [quote(seq, chance) for seq in range(1, 2001 if quick else 20001)]
+    good, bad = b"".join(quotes), b"".join(map(spoiled, quotes))
     # 27s that each claim about a thousand bytes up to a right end, so that each check byte is worked out
     false_frames = b"".join(b"\x1b" + packed(1024 - 3 * n, 4) for n in range(10)) + b"\r\n"
     for size in [1, 10] if quick else [1, 10, 100, 200, 1000]:
         if size <= most:
             yield "good frames of 113 bytes", good, size * MB
     size = (2 if quick else 20) * MB
+    yield "the same with a bad digit each", bad, size
     yield "noise without a 27", bytes(range(28, 255)), size
     yield "all 27s", b"\x1b", size
     yield "false lengths of 1,024", b"\x1b\x10\x24", size
@@ -97,7 +105,7 @@ class Program:
 
     def __init__(self, name):
         self.name = name
-        self.most = 1000 if name == "listing" else 100  # messages prints five times what it reads
+        self.most = 1000 if name == "listing" else 100  # messages prints five times what it reads, refusals twice
 
     def build(self):
         return machine.built(machine.ROOT / "native" / "build", "program", self.name), machine.cargo("second", self.name)

@@ -1,8 +1,8 @@
 #!/usr/bin/env python3
 """Tries the programs on a line that stays open: what is known of it is shown while the input is still open, and before a read
 that fails is told; a board is shown when the line has ended, and not before. What is known is made by the reference reader; the
-rows and objects are those of tests/listing, tests/messages and tests/board. Prints what differs, and ends with status 1 if
-anything did.
+rows and objects are those of tests/listing, tests/messages, tests/refusals and tests/board. Prints what differs, and ends with
+status 1 if anything did.
 """
 
 import itertools
@@ -17,6 +17,7 @@ from board import make as board_maker
 from listing import make as listing_maker
 from messages import make as messages_maker
 from reference import frames, reader, started, stored
+from refusals import make as refusals_maker
 
 faults = started.Faults("live")
 
@@ -40,6 +41,23 @@ def messages_of(moves):
     return messages_maker.printed(messages_maker.objects(moves)).encode()
 
 
+def refusals_of(moves):
+    return refusals_maker.printed(refusals_maker.objects(refused(moves))).encode()
+
+
+def refusals_known(moves):
+    """No run of skipped bytes that may go on."""
+    made = refused(moves)
+    if made and 1 <= made[-1][1] <= 5:
+        made.pop()
+    return refusals_maker.printed(refusals_maker.objects(made)).encode()
+
+
+def refused(moves):
+    """The frames and the runs of skipped bytes of a line that begins as the whole one does."""
+    return refusals_maker.joined(refusals_maker.moves_of(LINE, moves))
+
+
 def board_of(moves):
     return board_maker.printed(moves).encode()
 
@@ -51,6 +69,7 @@ def nothing(moves):
 PROGRAMS = {
     "listing": (listing_of, listing_known),
     "messages": (messages_of, messages_of),
+    "refusals": (refusals_of, refusals_known),
     "board": (board_of, nothing),
 }
 
@@ -70,8 +89,8 @@ def pieces():
     yield sample[410:550]  # a quote; then noise, and the beginning of a quote
     yield sample[550:612]  # its end
     yield sample[612:670]  # a damaged quote but for its last byte
-    yield sample[670:700]  # that, a halt, and the beginning of a quote
-    yield sample[700:]
+    yield sample[670:745]  # that, a refused quote, a halt, and the beginning of a quote
+    yield sample[745:]
     yield frames.frame("06", frames.quote(), "00000010", version="03")  # refused
     yield frames.frame("06", frames.quote(0x81, code=b"0050  "), "00000010")  # the trade alone; the row keeps its sides
     yield frames.frame("05", frames.notice("00", b"alone"), "00000003")
@@ -154,7 +173,7 @@ def main():
             continue
         stays_open(name)
         for given in (hung_up, broken_off):
-            for data in (LINE[:36], LINE[:555], LINE[:930]):
+            for data in (LINE[:36], LINE[:555], LINE[:971]):
                 read_fails(name, given, data)
     return faults.status()
 

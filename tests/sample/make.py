@@ -1,6 +1,6 @@
 #!/usr/bin/env python3
 """Makes samples/capture, a few seconds of a line for the first look: notices, one of them in Big5, quotes, a halt that is lifted,
-opening prices, noise between them, a quote whose check byte was damaged on the way, a trade sent alone, beside which the stock's
+opening prices, noise between them, a quote whose check byte was damaged on the way, one whose price begins with a 1 where a 0 has to stand, a trade sent alone, beside which the stock's
 levels stay what they were, and numbers that never arrived. One code begins with a zero, which a reader that takes codes for numbers
 loses.
 
@@ -33,6 +33,8 @@ def the_line():
     yield frame("06", quote(0xA2, book(425000, True, (2, 1)), code=b"1101  ", time="090000513002"), "00000002")
     damaged = frame("06", quote(0x22, book(1045000, False, (2, 1)), code=b"2317  ", time="090001000000"), "00000003")
     yield damaged[:20] + b"\x99" + damaged[21:]
+    price = quote(0x80, book(1045000, True, (0, 0)), code=b"2317  ", time="090001500000")
+    yield frame("06", price[:19] + b"\x10" + price[20:], "00000004")
     yield frame("19", halt(code=b"2317  ", halted="090002", resumed="999999", state=b"I"), "00000001")
     yield frame("06", quote(0x00, code=b"2330  ", time="090004271828"), "00000006")
     yield frame("19", halt(code=b"2317  ", halted="090002", resumed="091500", state=b"I"), "00000002")

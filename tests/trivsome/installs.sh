@@ -11,7 +11,7 @@ top=$PWD
 
 # the programs in FOLDER do what they do here, for nobody too, and the script speaks of nothing that is not there
 programs_of() { # FOLDER
-    for name in listing messages gaps board; do
+    for name in listing messages refusals gaps board; do
         expect 0 without_kit nobody "$1/bin/trivsome" $name <"$(stored $name)/stdin" >"$work/file" 2>"$work/said"
         cmp "$work/file" "$(stored $name)/stdout" || differs "$1: $name prints something else: $(cat "$work/said")"
     done

@@ -8,7 +8,7 @@ part=runs
 . ./common.sh
 line=$(stored listing)/stdin
 
-for name in listing messages gaps board numbers; do
+for name in listing messages refusals gaps board numbers; do
     expect 0 ./trivsome $name <"$(stored $name)/stdin" >"$work/file" 2>"$work/said"
     cmp "$work/file" "$(stored $name)/stdout" || differs "$name prints something else"
 done
@@ -53,7 +53,7 @@ else
     echo "trivsome runs: no file system can be mounted here; /dev/full, and a folder for temporary files that cannot be written"
     mkdir -p "$work/full" && ln -s /dev/full "$work/full/out" && ln -s /dev/full "$work/full/said" && chmod 555 "$work/full"
 fi
-for name in listing messages gaps board; do
+for name in listing messages refusals gaps board; do
     expect 1 env TMPDIR="$work/full" ./trivsome $name <"$(stored $name)/stdin" >"$work/full/out" 2>"$work/full/said"
     expect 1 ./trivsome $name <"$(stored $name)/stdin" >"$work/full/out" 2>"$work/said"
     says "$name: cannot write standard output" "$work/said"
@@ -102,7 +102,7 @@ for word in --help -h; do
 done
 
 # each program is in the help once; those of the tests are behind, by name alone
-for name in listing messages gaps board table; do
+for name in listing messages refusals gaps board table; do
     [ "$(sed '/tests/,$d' "$work/help" | grep -c "^  $name ")" -eq 1 ] || differs "--help does not name $name"
 done
 for name in numbers worked; do

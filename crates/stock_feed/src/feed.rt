@@ -15,16 +15,17 @@ pub const CUT: u8 = 3;
 // 16: the place would pass the largest number.
 pub const FULL: u8 = 16;
 
+// The small fields stand together, at the end: with a gap behind one of them a copy takes several times as long.
 pub struct Feed {
     // the bytes in hand that are not done with: from a place of the input buffer up to an end
     pub at: usize,
     pub end: usize,
+    // how many bytes of text wait in the output buffer
+    pub to: usize,
     // the last piece was shorter than the room for it, so the line may pause here
     pub short: bool,
     // no more bytes will come
     pub closed: bool,
-    // how many bytes of text wait in the output buffer
-    pub to: usize,
     // what failed, or 0
     pub failure: u8,
 }
@@ -37,9 +38,9 @@ impl Feed {
         Feed {
             at: 0,
             end: 0,
+            to: 0,
             short: false,
             closed: false,
-            to: 0,
             failure: 0,
         }
     }

@@ -6,6 +6,8 @@ use crate::feed::Feed;
 use crate::input::read_on;
 use crate::output::failed;
 use crate::output::relieved;
+use crate::places::behind;
+use crate::places::between;
 use stock_frame::head::Head;
 use stock_lines::frames::Ahead;
 use stock_lines::frames::next_frame as ahead;
@@ -52,24 +54,6 @@ enum Hand {
     Nothing(Frames),
     // 16: the place on the line would pass the largest number
     Full(Frames),
-}
-
-// How many bytes there are from one place to another.
-fn between(from: usize, to: usize) -> usize {
-    if from <= to {
-        return to - from;
-    }
-    0
-}
-
-// The place some bytes behind another, or an end before it.
-fn behind(from: usize, length: usize, end: usize) -> usize {
-    if from <= end {
-        if length <= end - from {
-            return from + length;
-        }
-    }
-    end
 }
 
 // No frame stands before a place.

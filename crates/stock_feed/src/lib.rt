@@ -1,8 +1,10 @@
-// What every program does around a line: standard input in pieces with what waits kept in front, the next row or frame handed
+// What every program does around a line: standard input in pieces with what waits kept in front, the next row, frame or move handed
 // out one at a time, text written in large pieces, and failures told. What is read cannot be in a contract; the calls that walk
-// the bytes in hand are `stock_lines::pieces::next_rows` and `stock_lines::frames::next_frame`.
+// the bytes in hand are `stock_lines::pieces::next_rows`, `stock_lines::pieces::stretch_at` and `stock_lines::frames::next_frame`.
 pub mod feed;
 pub mod frames;
 mod input;
+pub mod moves;
 pub mod output;
+mod places;
 pub mod rows;

@@ -34,7 +34,7 @@ pub fn relieved(out: &[u8], f: Feed) -> Feed {
 }
 
 // With what failed, once the text that waits is written; what failed first is kept.
-pub(crate) fn failed(out: &[u8], f: Feed, failure: u8) -> Feed {
+pub fn failed(out: &[u8], f: Feed, failure: u8) -> Feed {
     let mut f = written(out, f);
     if f.failure == 0 {
         f.failure = failure;
