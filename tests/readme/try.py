@@ -43,6 +43,7 @@ LINES = [
     Line(MESSAGES + " | python3 -c 'import pandas, sys; m = ", r"(?m)^\d+ +132\.5000 +59 +8 +0050 +09:00:06\.000000$", ("pandas",)),
     Line(MESSAGES + " | python3 -c 'import json, sys;", r"(?m)^Trading opens at 09:00\n今日上午九時開始交易$"),
     Line("./trivsome gaps < samples/capture | jq ", r'^"first","last","count"\n3,5,3\n$', ("jq",)),
+    Line("./trivsome refusals < samples/capture | jq ", r'(?m)^\[671,11,58,"a packed field of the body has a bad digit"\]$', ("jq",)),
     Line("./trivsome board < samples/capture | jq ", r'(?m)^"0050  ","09:00:06\.250000","133\.0000","132\.0000","132\.5000"$', ("jq",)),
     Line("./trivsome library", r"libtrivsome\.a", seconds=started.BUILT),
     Line("cc -std=c11 -O2 -Iinclude -o target/quotes ", r"^$"),
