@@ -1,13 +1,14 @@
 // Prices read out of a body.
 ghost use mathlib.Core.Path.{_≡_};
-ghost use Rattle.layout.specs.Places.{cellsOf};
 ghost use Rattle.stock_frame.specs.Format.{digitAnswer};
 ghost use Rattle.stock_prices.specs.Prices.{twelveCells, pricesReading};
 ghost use Rattle.digits.specs.Packed.{goodByte};
 ghost use Rattle.stock_prices_read.specs.Steps.{refusal, withoutPrices, acceptance, rowOf};
 
+mod cells;
 mod slots;
 
+use crate::cells::cells;
 use answers::Answer;
 use answers::Frame;
 use digits::halves::Place;
@@ -30,27 +31,6 @@ fn refused(n: u8, length: usize) -> PricesReading
         answer: Answer::Refused(n, length, Place::None),
         prices,
     }
-}
-
-// The layout of a body: the count, and ten slots of a code, four prices, a total and a time.
-const CELLS: [u8; 121] = [
-    2,
-    0, 0, 0, 0, 0, 0, 9, 9, 9, 9, 8, 12,
-    0, 0, 0, 0, 0, 0, 9, 9, 9, 9, 8, 12,
-    0, 0, 0, 0, 0, 0, 9, 9, 9, 9, 8, 12,
-    0, 0, 0, 0, 0, 0, 9, 9, 9, 9, 8, 12,
-    0, 0, 0, 0, 0, 0, 9, 9, 9, 9, 8, 12,
-    0, 0, 0, 0, 0, 0, 9, 9, 9, 9, 8, 12,
-    0, 0, 0, 0, 0, 0, 9, 9, 9, 9, 8, 12,
-    0, 0, 0, 0, 0, 0, 9, 9, 9, 9, 8, 12,
-    0, 0, 0, 0, 0, 0, 9, 9, 9, 9, 8, 12,
-    0, 0, 0, 0, 0, 0, 9, 9, 9, 9, 8, 12,
-];
-
-fn cells() -> [u8; 121]
-    ensures { λ r. ⌜ cellsOf r ≡ twelveCells ⌝ }
-{
-    CELLS
 }
 
 // What a body with a bad digit answers: 11, with its place.

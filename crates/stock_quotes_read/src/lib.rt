@@ -4,11 +4,14 @@ ghost use mathlib.Core.Bool.{true};
 ghost use Prim.Native.Nat.{_+_, _*_, _≤_};
 ghost use lib.ListN.{length, drop};
 ghost use Rattle.layout.specs.Cells.{goodCells};
-ghost use Rattle.layout.specs.Places.{cellsOf};
 ghost use Rattle.stock_frame.specs.Format.{digitAnswer};
 ghost use Rattle.stock_quotes.specs.Reveal.{sideRoom, pairCount};
 ghost use Rattle.stock_quotes.specs.Quotes.{quoteReading, pairCells, sixCells, pairsIn, padded};
 ghost use Rattle.stock_quotes_read.specs.Steps.{mostPairs, refusedReading, withoutQuote, acceptedReading, Dictated, SidesOf, fixedGood, FixedOf};
+
+mod cells;
+
+use crate::cells::cells;
 use amounts::Pair;
 use amounts::PairField;
 use amounts::Quantity;
@@ -55,18 +58,6 @@ fn refused(number: u8, n: usize) -> QuoteReading
         answer: Answer::Refused(number, n, Place::None),
         quote,
     }
-}
-
-// The layout of a body: a code, a time, three bytes, a total, and as many pairs as there can be.
-const CELLS: [u8; 33] = [
-    0, 0, 0, 0, 0, 0, 12, 0, 0, 0, 8,
-    9, 8, 9, 8, 9, 8, 9, 8, 9, 8, 9, 8, 9, 8, 9, 8, 9, 8, 9, 8, 9, 8,
-];
-
-fn cells() -> [u8; 33]
-    ensures { λ r. ⌜ cellsOf r ≡ sixCells mostPairs ⌝ }
-{
-    CELLS
 }
 
 // What a body with a bad digit answers: 11, with its place.

@@ -136,5 +136,5 @@ module _ (kind seq : ℕ) (b : List ℕ) where
         ap₂ (λ (n : ℕ) (G : Format). named n (record { format = F .number; seq = seq; length = around + length b }) (bodyPlace G b n))
         (sym (header-known F listed b)) (sym (same-format F listed))
         ∙ (λ i.
-          let n = firstFail (kindChecks (sym bu i) (sym fm i) (sym ve i) ++ bodyChecks (formatOf (sym fm i)) b) in
-          named n (record { format = sym fm i; seq = seq; length = around + length b }) (bodyPlace (formatOf (sym fm i)) b n))
+        let n = firstFail (kindChecks (sym bu i) (sym fm i) (sym ve i) ++ bodyChecks (formatOf (sym fm i)) b) in
+        named n (record { format = sym fm i; seq = seq; length = around + length b }) (bodyPlace (formatOf (sym fm i)) b n))

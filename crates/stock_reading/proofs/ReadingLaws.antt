@@ -88,8 +88,8 @@ module _ (t : List ℕ) (o : Outlined t) where
   unfolding afterOutline answerOf
   answer-outlined =
       (λ i.
-        let n = firstFail (kindChecks (kind-business i) (kind-format i) (kind-version i) ++ bodyChecks (formatOf (kind-format i)) (body f)) in
-        named n (record { format = kind-format i; seq = sequence f; length = length-body t o i }) (bodyPlace (formatOf (kind-format i)) (body f) n))
+      let n = firstFail (kindChecks (kind-business i) (kind-format i) (kind-version i) ++ bodyChecks (formatOf (kind-format i)) (body f)) in
+      named n (record { format = kind-format i; seq = sequence f; length = length-body t o i }) (bodyPlace (formatOf (kind-format i)) (body f) n))
       ∙ ap (named (firstFail after) (record { format = format f; seq = sequence f; length = lengthOf t })) (after-place (firstFail after) refl)
       ∙ ap (λ (n : ℕ). named n (record { format = format f; seq = sequence f; length = lengthOf t }) (placeOf n t)) (sym checks-outlined)
 
