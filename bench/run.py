@@ -1,10 +1,10 @@
 #!/usr/bin/env python3
 """Times the proved library and programs beside the second program's, in one run on this machine, and prints tables.
 
-run.py [--quick] [calls | listing | messages | gaps | board]
+run.py [--quick] [calls | listing | messages | refusals | gaps | board]
 
-calls     reading and writing of each format, arrivals at a ledger, a full board, a line walked, and packed digits, call by call
-listing, messages, gaps, board
+calls     reading and writing of each format, frames refused for a bad digit, arrivals at a ledger, a full board, a line walked, and packed digits, call by call
+listing, messages, refusals, gaps, board
           the programs on whole lines: good frames of growing length, and the worst lines
 --quick   smaller and fewer, done in seconds once all is built
 

@@ -13,12 +13,12 @@ use layout::places::first_bad;
 const LONGEST: usize = 1024;
 
 // Of a part of a frame with some halves before it.
-fn place_in(cells: &[u8], s: &[u8], before: u32) -> Place
+fn place_in(cells: &[u8], s: &[u8], before: usize) -> Place
     requires { ⌜ (before ≤ 20) × (length (now s) ≤ 1024) ⌝ }
     ensures { λ r. ⌜ r ≡ firstBad (cellsOf (now (cells .entry))) before (now (s .entry)) ⌝ }
 {
     match first_bad(cells, s) {
-        Place::Half(p) => Place::Half(before + p),
+        Place::Half(p) => Place::Half(before as u32 + p),
         Place::None => Place::None,
     }
 }

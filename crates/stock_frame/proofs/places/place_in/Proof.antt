@@ -13,8 +13,11 @@ first-bad-requires c κs = search needs
 enum-known-p : tie.Need-enum-known-p
 enum-known-p c = search needs
 
-add-t7 : tie.Need-add-t7
-add-t7 c =
+cast-t7 : tie.Need-cast-t7
+cast-t7 c = search needs
+
+add-t8 : tie.Need-add-t8
+add-t8 c =
     let k = c .before .before .before in
     let s = k .before .before .before in
     let small = place-small (cellsOf (s .args .cells .now)) (s .args .s .now) (s .pre .1) (k .first-bad .result) (k .first-bad .ensures) (s .args .before) _ (c .before .p .given .1) in
@@ -38,4 +41,4 @@ returns-2 c =
     place-none (cellsOf (a .cells .now)) (a .s .now) (s .pre .1) (k .first-bad .result) (k .first-bad .ensures) (a .before) (c .enum-told .given .1)
 
 pub place-in-spec : {M : Type 1} → statement M
-place-in-spec = tie.close (tie.spec first-bad-requires enum-known-p add-t7 enum-told returns returns-2)
+place-in-spec = tie.close (tie.spec first-bad-requires enum-known-p cast-t7 add-t8 enum-told returns returns-2)
