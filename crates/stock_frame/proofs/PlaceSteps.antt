@@ -1,12 +1,12 @@
 -- A place in a part of a frame, with the halves before that part.
-use Prim.Native.Nat.{ℕ, _+_, _-_, _*_, _≤_, _<_}
+use Prim.Native.Nat.{ℕ, _+_, _-_, _*_, _/_, _%_, _≤_, _<_}
 use mathlib.Core.Path.{_≡_, sym, ap, ap₂, _∙_}
 use mathlib.Core.Bool.{Bool, cond}
-use mathlib.Core.List.{List}
+use mathlib.Core.List.{List, [], _∷_}
 use native.Mathlib.Omega.{arith}
-use lib.ListN.{length, take, drop, length-drop}
-use lib.Seq.{drop-drop, take-all}
-use borrow.Author.Tests.{le-leb, lt-leb}
+use lib.ListN.{length, getD, take, drop, length-drop}
+use lib.Seq.{getD-drop, take-all}
+use borrow.Author.Tests.{lt-ltb, le-ltb, le-leb, lt-leb}
 use Rattle.digits.specs.Halves.{looked, behind}
 use Rattle.digits.specs.declared.halves.Place.{Place}
 use Rattle.digits.specs.declared.halves.Place.the-variants.{None, Half}
@@ -17,6 +17,7 @@ use Rattle.answers.specs.declared.Answer.{Answer}
 use Rattle.answers.specs.declared.Answer.the-variants.{Refused}
 use Rattle.stock_frame.specs.Outline.{lengthBytes, lengthCells, kindCells}
 use Rattle.stock_frame.specs.Format.{around, bodyHalf, digitAnswer}
+use Rattle.stock_frame.proofs.OutlineSteps.{length-bytes}
 
 module _ (cs : List Cell) (s : List ℕ) (few : length s ≤ 1024) (x : Place) (said : x ≡ firstBad cs 0 (looked s)) (before : ℕ) where
   is : x ≡ firstBad cs 0 s
@@ -36,13 +37,39 @@ module _ (cs : List Cell) (s : List ℕ) (few : length s ≤ 1024) (x : Place) (
   pub place-small : (p : ℕ) → x ≡ Half p → p < 2 * length s
   place-small p e = omega (arith, firstBad-inside cs 0 s p (sym is ∙ e))
 
--- the length of a frame at a place of a line, as a part of the line
-pub length-part : (line : List ℕ) (at s e : ℕ) → s ≡ at + 1 → e ≡ at + 3 → (p : Place)
-    → p ≡ firstBad lengthCells 2 (take (e - s) (drop s line)) → p ≡ firstBad lengthCells 2 (lengthBytes (drop at line))
-length-part line at s e f g p is =
-    let k : e - s ≡ 2 = omega arith in
-    is ∙ ap₂ (λ (m : ℕ) (j : ℕ). firstBad lengthCells 2 (take m (drop j line))) k f
-    ∙ ap (λ (l : List ℕ). firstBad lengthCells 2 (take 2 l)) (sym (drop-drop 1 at line))
+-- the length of a frame at a place of a line, half by half
+module _ (line : List ℕ) (at : ℕ) (enough : at + 3 ≤ length line) where
+  two-bytes : lengthBytes (drop at line) ≡ getD line (at + 1) 0 ∷ getD line (at + 2) 0 ∷ []
+  two-bytes =
+      length-bytes (drop at line) (rw length-drop (omega arith))
+      ∙ ap₂ (λ (x y : ℕ). x ∷ y ∷ []) (getD-drop at line 1 0) (getD-drop at line 2 0)
+
+  from : (p : Place) → p ≡ firstBad lengthCells 2 (getD line (at + 1) 0 ∷ getD line (at + 2) 0 ∷ []) → p ≡ firstBad lengthCells 2 (lengthBytes (drop at line))
+  from p e = e ∙ ap (firstBad lengthCells 2) (sym two-bytes)
+
+  pub length-first : 9 < getD line (at + 1) 0 / 16 → Half 2 ≡ firstBad lengthCells 2 (lengthBytes (drop at line))
+  length-first h = from (Half 2) (rw (lt-ltb 9 (getD line (at + 1) 0 / 16) h))
+
+  module _ (h1 : getD line (at + 1) 0 / 16 ≤ 9) where
+    pub length-second : 9 < getD line (at + 1) 0 % 16 → Half 3 ≡ firstBad lengthCells 2 (lengthBytes (drop at line))
+    length-second h = from (Half 3) (rw (le-ltb 9 (getD line (at + 1) 0 / 16) h1, lt-ltb 9 (getD line (at + 1) 0 % 16) h))
+
+    module _ (h2 : getD line (at + 1) 0 % 16 ≤ 9) where
+      pub length-third : 9 < getD line (at + 2) 0 / 16 → Half 4 ≡ firstBad lengthCells 2 (lengthBytes (drop at line))
+      length-third h =
+          from (Half 4)
+          (rw (le-ltb 9 (getD line (at + 1) 0 / 16) h1, le-ltb 9 (getD line (at + 1) 0 % 16) h2, lt-ltb 9 (getD line (at + 2) 0 / 16) h))
+
+      module _ (h3 : getD line (at + 2) 0 / 16 ≤ 9) where
+        pub length-fourth : 9 < getD line (at + 2) 0 % 16 → Half 5 ≡ firstBad lengthCells 2 (lengthBytes (drop at line))
+        length-fourth h =
+            from (Half 5)
+            (rw (le-ltb 9 (getD line (at + 1) 0 / 16) h1, le-ltb 9 (getD line (at + 1) 0 % 16) h2, le-ltb 9 (getD line (at + 2) 0 / 16) h3, lt-ltb 9 (getD line (at + 2) 0 % 16) h))
+
+        pub length-good : getD line (at + 2) 0 % 16 ≤ 9 → None ≡ firstBad lengthCells 2 (lengthBytes (drop at line))
+        length-good h =
+            from None
+            (rw (le-ltb 9 (getD line (at + 1) 0 / 16) h1, le-ltb 9 (getD line (at + 1) 0 % 16) h2, le-ltb 9 (getD line (at + 2) 0 / 16) h3, le-ltb 9 (getD line (at + 2) 0 % 16) h))
 
 -- bytes from the fourth on
 pub head-part : (f : List ℕ) (p : Place) → p ≡ firstBad kindCells 6 (take (length f - 3) (drop 3 f)) → p ≡ firstBad kindCells 6 (drop 3 f)

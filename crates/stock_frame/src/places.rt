@@ -1,7 +1,8 @@
 // Where a frame's first bad digit is, in halves from its first byte. Looked for only where a digit is known to be bad.
 ghost use mathlib.Core.Path.{_≡_};
-ghost use Prim.Native.Nat.{_+_, _≤_};
+ghost use Prim.Native.Nat.{_+_, _*_, _≤_};
 ghost use lib.ListN.{length, drop};
+ghost use Rattle.digits.specs.declared.halves.Place.the-variants.{Half};
 ghost use Rattle.layout.specs.Places.{firstBad, cellsOf};
 ghost use Rattle.stock_frame.specs.Outline.{lengthBytes, lengthCells, kindCells};
 ghost use Rattle.stock_frame.specs.Format.{digitAnswer};
@@ -11,6 +12,11 @@ use layout::places::first_bad;
 
 // The longest frame.
 const LONGEST: usize = 1024;
+
+// A half of a byte.
+const HIGH: usize = 0;
+
+const LOW: usize = 1;
 
 // Of a part of a frame with some halves before it.
 fn place_in(cells: &[u8], s: &[u8], before: usize) -> Place
@@ -23,15 +29,35 @@ fn place_in(cells: &[u8], s: &[u8], before: usize) -> Place
     }
 }
 
-// Of the length of a frame at a place; none where its digits are good.
+// The place of a half of a frame's byte, which is counted from 0.
+fn place_of(byte: usize, half: usize) -> Place
+    requires { ⌜ (byte ≤ 1023) × (half ≤ 1) ⌝ }
+    ensures { λ r. ⌜ r ≡ Half (2 * byte + half) ⌝ }
+{
+    Place::Half((2 * byte + half) as u32)
+}
+
+// Of the length of a frame at a place; none where its digits are good. On a bad line it is asked for at every 27.
 pub(crate) fn length_place(line: &[u8], at: usize) -> Place
     requires { ⌜ at + 3 ≤ length (now line) ⌝ }
     ensures { λ r. ⌜ r ≡ firstBad lengthCells 2 (lengthBytes (drop at (now (line .entry)))) ⌝ }
 {
-    let cells = [4u8];
-    let start = at + 1;
-    let end = at + 3;
-    place_in(&cells, &line[start..end], 2)
+    let first = at + 1;
+    let a = line[first];
+    let b = line[at + 2];
+    if a / 16 > 9 {
+        return place_of(1, HIGH);
+    }
+    if a % 16 > 9 {
+        return place_of(1, LOW);
+    }
+    if b / 16 > 9 {
+        return place_of(2, HIGH);
+    }
+    if b % 16 > 9 {
+        return place_of(2, LOW);
+    }
+    Place::None
 }
 
 // Of bytes 4 to 10 of a frame.

@@ -1,46 +1,74 @@
--- `places::length_place` meets its contract.
-use mathlib.Core.Path.{refl}
+-- `places::length_place` meets its contract: each half is tested, the first one first.
+use mathlib.Core.Path.{_∙_}
 use native.Mathlib.Omega.{arith}
 use borrow.Author.Needs.{needs}
-use Rattle.stock_frame.proofs.PlaceSteps.{length-part}
+use Rattle.stock_frame.proofs.PlaceSteps.{length-first, length-second, length-third, length-fourth, length-good}
 use Rattle.stock_frame.proofs.places.length_place.Statement.{statement}
 use Rattle.stock_frame.proofs.places.length_place.Tie as tie
 
-add-start : tie.Need-add-start
-add-start c = search needs
+add-first : tie.Need-add-first
+add-first c = search needs
 
-add-end : tie.Need-add-end
-add-end c = search needs
+shared-slice-read-a : tie.Need-shared-slice-read-a
+shared-slice-read-a c = search needs
 
-slice-aggregate-place-in : tie.Need-slice-aggregate-place-in
-slice-aggregate-place-in c = search needs
+add-b : tie.Need-add-b
+add-b c = search needs
 
-sub-place-in : tie.Need-sub-place-in
-sub-place-in c = search needs
+shared-slice-read-b : tie.Need-shared-slice-read-b
+shared-slice-read-b c = search needs
 
-part-place-in-start : tie.Need-part-place-in-start
-part-place-in-start c = search needs
-
-part-place-in-end : tie.Need-part-place-in-end
-part-place-in-end c = search needs
-
-place-in-requires : tie.Need-place-in-requires
-place-in-requires c κs = search needs
+place-of-requires : tie.Need-place-of-requires
+place-of-requires c κs = search needs
 
 returns : tie.Need-returns
 returns c =
-    let a = c .before .before .before .before .args in
-    length-part (a .line .now) (a .at) _ _ refl refl (c .place-in .result) (c .place-in .ensures)
+    let a = c .before .before .before .before .before .args in
+    c .place-of .ensures ∙ length-first (a .line .now) (a .at) (omega arith) (omega arith)
+
+place-of-requires-2 : tie.Need-place-of-requires-2
+place-of-requires-2 c κs = search needs
+
+returns-2 : tie.Need-returns-2
+returns-2 c =
+    let a = c .before .before .before .before .before .before .args in
+    c .place-of2 .ensures ∙ length-second (a .line .now) (a .at) (omega arith) (omega arith) (omega arith)
+
+place-of-requires-3 : tie.Need-place-of-requires-3
+place-of-requires-3 c κs = search needs
+
+returns-3 : tie.Need-returns-3
+returns-3 c =
+    let a = c .before .before .before .before .before .before .before .args in
+    c .place-of3 .ensures ∙ length-third (a .line .now) (a .at) (omega arith) (omega arith) (omega arith) (omega arith)
+
+place-of-requires-4 : tie.Need-place-of-requires-4
+place-of-requires-4 c κs = search needs
+
+returns-4 : tie.Need-returns-4
+returns-4 c =
+    let a = c .before .before .before .before .before .before .before .before .args in
+    c .place-of4 .ensures ∙ length-fourth (a .line .now) (a .at) (omega arith) (omega arith) (omega arith) (omega arith) (omega arith)
+
+returns-5 : tie.Need-returns-5
+returns-5 c =
+    let a = c .before .before .before .before .before .before .before .args in
+    length-good (a .line .now) (a .at) (omega arith) (omega arith) (omega arith) (omega arith) (omega arith)
 
 pub length-place-spec : {M : Type 1} → statement M
 length-place-spec =
     tie.close
     (tie.spec
-    add-start
-    add-end
-    slice-aggregate-place-in
-    sub-place-in
-    part-place-in-start
-    part-place-in-end
-    place-in-requires
-    returns)
+    add-first
+    shared-slice-read-a
+    add-b
+    shared-slice-read-b
+    place-of-requires
+    returns
+    place-of-requires-2
+    returns-2
+    place-of-requires-3
+    returns-3
+    place-of-requires-4
+    returns-4
+    returns-5)
