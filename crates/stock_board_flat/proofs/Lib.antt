@@ -1,6 +1,5 @@
 -- The laws that the proofs cite, and the theorems that belong to no one function.
 pub mod WholeLaws
-pub mod ZeroLaws
 pub mod FindLaws
 pub mod CodeLaws
 pub mod RowLaws

@@ -5,12 +5,12 @@ use mathlib.Core.List.{List, [], _∷_, _++_, append-assoc, append-nil}
 use native.Mathlib.Omega.{arith}
 use lib.ListN.{length, set, drop, replicate, length-replicate, replicate-append-replicate, drop-of-length-le}
 use lib.Seq.{set-at}
-use Rattle.codes_times.proofs.RuleLaws.{next-byte}
+use Rattle.list_laws.proofs.Turns.{at-drop}
 
 -- the next number becomes 0
 pub zero-next : (s t : List ℕ) (i : ℕ) → t ≡ replicate i 0 ++ drop i s → i < length s → set t i 0 ≡ replicate (i + 1) 0 ++ drop (i + 1) s
 zero-next s t i e h =
-    ap (λ (l : List ℕ). set l i 0) (e ∙ ap (λ (l : List ℕ). replicate i 0 ++ l) (next-byte s i h))
+    ap (λ (l : List ℕ). set l i 0) (e ∙ ap (λ (l : List ℕ). replicate i 0 ++ l) (at-drop s i h))
     ∙ set-at (replicate i 0) _ (drop (i + 1) s) 0 i (length-replicate i 0)
     ∙ sym (append-assoc (replicate i 0) (0 ∷ []) (drop (i + 1) s))
     ∙ ap (λ (l : List ℕ). l ++ drop (i + 1) s) (replicate-append-replicate i 1 0)

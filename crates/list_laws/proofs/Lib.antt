@@ -1,0 +1,3 @@
+-- Laws of lists of numbers.
+pub mod Turns
+pub mod Zeros
