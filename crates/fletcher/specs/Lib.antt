@@ -1,0 +1,2 @@
+-- Fletcher-16 of bytes.
+pub mod Fletcher
