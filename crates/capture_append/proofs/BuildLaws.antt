@@ -1,0 +1,69 @@
+-- The block of a payload, put together part by part.
+use Prim.Native.Nat.{ℕ, _+_, _-_, _/_, _%_, _≤_}
+use mathlib.Core.Path.{_≡_, refl, sym, ap, _∙_}
+use mathlib.Core.List.{List, [], _∷_, _++_, append-assoc}
+use native.Mathlib.Omega.{arith}
+use lib.ListN.{length, set, take, drop, replicate, length-append, length-replicate, replicate-append-replicate}
+use lib.Seq.{paste, take-length, take-at, drop-at, set-at, drop-append-add, append-snoc}
+use Rattle.fletcher.specs.declared.Sums.{Sums}
+use Rattle.fletcher.specs.Fletcher.{fletcher}
+use Rattle.capture.specs.Blocks.{checkedOf, blockOf}
+
+pub headed-is : (z : List ℕ) → z ≡ replicate 512 0 → (p hi lo : ℕ)
+    → set (set (set z 3 p) 4 hi) 5 lo ≡ 0 ∷ 0 ∷ 0 ∷ p ∷ hi ∷ lo ∷ replicate 506 0
+headed-is z is p hi lo = rw is refl
+
+pub headed-long : (d : List ℕ) (p hi lo : ℕ) → d ≡ 0 ∷ 0 ∷ 0 ∷ p ∷ hi ∷ lo ∷ replicate 506 0 → length d ≡ 512
+headed-long d p hi lo is = ap length is
+
+-- zeros less so many, and two zeros more
+abbrev zeros : ℕ → List ℕ
+zeros k = replicate k 0
+
+drop-zeros : (n k : ℕ) → n ≤ k → drop n (zeros k) ≡ zeros (k - n)
+drop-zeros n k h =
+    let e : n + (k - n) ≡ k = omega arith in
+    ap (λ (j : ℕ). drop n (zeros j)) (sym e) ∙ ap (drop n) (sym (replicate-append-replicate n (k - n) 0))
+    ∙ drop-at (zeros n) (zeros (k - n)) n (length-replicate n 0)
+
+two-more : (n : ℕ) → n ≤ 504 → zeros (506 - n) ≡ zeros (504 - n) ++ (0 ∷ 0 ∷ [])
+two-more n h =
+    let e : 506 - n ≡ 504 - n + 2 = omega arith in
+    ap zeros e ∙ sym (replicate-append-replicate (504 - n) 2 0)
+
+module _ (p : ℕ) (x : List ℕ) (low : p ≤ 128) (fits : length x ≤ 504) where
+  abbrev head : List ℕ
+  head = 0 ∷ 0 ∷ 0 ∷ p ∷ length x / 256 ∷ length x % 256 ∷ []
+
+  pub filled-is : (d : List ℕ) → d ≡ 0 ∷ 0 ∷ 0 ∷ p ∷ length x / 256 ∷ length x % 256 ∷ replicate 506 0
+      → paste d 6 x (length x) ≡ checkedOf p x ++ (0 ∷ 0 ∷ [])
+  unfolding checkedOf
+  filled-is d is =
+      let n = length x in
+      let behind : drop (6 + n) d ≡ zeros (504 - n) ++ (0 ∷ 0 ∷ []) =
+      ap (drop (6 + n)) is ∙ drop-append-add head (zeros 506) n ∙ drop-zeros n 506 (omega arith) ∙ two-more n fits in
+      let a : p / 16777216 ≡ 0 = omega arith in
+      let b : p / 65536 % 256 ≡ 0 = omega arith in
+      let c : p / 256 % 256 ≡ 0 = omega arith in
+      let e : p % 256 ≡ p = omega arith in
+      rw (a, b, c, e, take-length, behind, is) (ap (λ (l : List ℕ). head ++ l) (sym (append-assoc x (zeros (504 - n)) (0 ∷ 0 ∷ []))))
+
+  pub length-checked : length (checkedOf p x) ≡ 510
+  unfolding checkedOf
+  length-checked = rw (length-append, length-replicate) (omega arith)
+
+  pub checked-part : (b : List ℕ) → b ≡ checkedOf p x ++ (0 ∷ 0 ∷ []) → take 510 b ≡ checkedOf p x
+  checked-part b is = ap (take 510) is ∙ take-at (checkedOf p x) (0 ∷ 0 ∷ []) 510 length-checked
+
+  pub block-is : (b : List ℕ) (s : Sums) → b ≡ checkedOf p x ++ (0 ∷ 0 ∷ []) → s ≡ fletcher (take 510 b)
+      → set (set b 510 (s .first)) 511 (s .second) ≡ blockOf p x
+  unfolding blockOf
+  block-is b s is sums =
+      let c = checkedOf p x in
+      let same : s ≡ fletcher c = sums ∙ ap fletcher (checked-part b is) in
+      let long : length (c ++ (s .first ∷ [])) ≡ 511 = rw (length-append, length-checked) (omega arith) in
+      ap (λ (l : List ℕ). set (set l 510 (s .first)) 511 (s .second)) is
+      ∙ ap (λ (l : List ℕ). set l 511 (s .second)) (set-at c 0 (0 ∷ []) (s .first) 510 length-checked ∙ sym (append-snoc c (s .first) (0 ∷ [])))
+      ∙ set-at (c ++ (s .first ∷ [])) 0 [] (s .second) 511 long
+      ∙ append-snoc c (s .first) (s .second ∷ [])
+      ∙ ap (λ (t : Sums). c ++ (t .first ∷ t .second ∷ [])) same

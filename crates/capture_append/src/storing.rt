@@ -1,0 +1,30 @@
+// A block stored byte by byte, the last byte of its number after everything else.
+ghost use mathlib.Core.Path.{_≡_};
+ghost use Prim.Native.Nat.{_+_, _≤_, _<_, min};
+ghost use lib.ListN.{length};
+ghost use Rattle.capture_append.specs.Stores.{storeOf, storedFrom, stores};
+use capture::BLOCK;
+
+// The store of a number, from 0: of the byte behind the number's first, then on to the end, then of the number from its first byte on.
+fn store(capture: &mut [u8], start: usize, block: &[u8; 512], j: usize)
+    requires { ⌜ (start + 512 ≤ length (now capture)) × (j < stores) ⌝ }
+    ensures { λ _. ⌜ now (capture .exit) ≡ storeOf (now (capture .entry)) start (now (block .entry)) j ⌝ }
+{
+    let at = (j + 4) % BLOCK;
+    capture[start + at] = block[at];
+}
+
+// The first stores of a block, so many as there are to be, at most all.
+pub(crate) fn store_some(capture: &mut [u8], start: usize, block: &[u8; 512], count: usize)
+    requires { ⌜ start + 512 ≤ length (now capture) ⌝ }
+    ensures { λ _. ⌜ now (capture .exit) ≡ storedFrom (now (capture .entry)) start (now (block .entry)) (min count stores) ⌝ }
+{
+    let mut j = 0;
+    while j < count {
+        if BLOCK <= j {
+            return;
+        }
+        store(capture, start, block, j);
+        j += 1;
+    }
+}
