@@ -1,0 +1,8 @@
+-- The laws of a capture and their proofs.
+pub mod BlockTrip
+pub mod TornLaws
+pub mod HoldLaws
+pub mod GoodLaws
+pub mod SeriesTells
+pub mod CutTells
+pub mod ExactLaws

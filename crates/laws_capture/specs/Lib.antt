@@ -1,0 +1,4 @@
+-- What is promised of a capture: after any series of appends that were cut short anywhere, after one append, and which captures answer 33.
+pub mod Series
+pub mod Cuts
+pub mod Exact
