@@ -3,6 +3,7 @@
 //! the proved program and compared with it. It is ordinary code; nothing here is proved.
 
 pub mod board;
+pub mod capture;
 pub mod compare;
 pub mod digits;
 pub mod faults;
