@@ -5,7 +5,7 @@ ghost use lib.ListN.{length};
 ghost use Rattle.capture_append.specs.Stores.{storeOf, storedFrom, stores};
 use capture::BLOCK;
 
-// The store of a number, from 0: of the byte behind the number's first, then on to the end, then of the number from its first byte on.
+// The store j, from 0: first those of the bytes behind the block's number, to its end, then those of the number from its first byte on.
 fn store(capture: &mut [u8], start: usize, block: &[u8; 512], j: usize)
     requires { ⌜ (start + 512 ≤ length (now capture)) × (j < stores) ⌝ }
     ensures { λ _. ⌜ now (capture .exit) ≡ storeOf (now (capture .entry)) start (now (block .entry)) j ⌝ }
@@ -14,7 +14,7 @@ fn store(capture: &mut [u8], start: usize, block: &[u8; 512], j: usize)
     capture[start + at] = block[at];
 }
 
-// The first stores of a block, so many as there are to be, at most all.
+// The first stores of a block: so many, or all if there are no more.
 pub(crate) fn store_some(capture: &mut [u8], start: usize, block: &[u8; 512], count: usize)
     requires { ⌜ start + 512 ≤ length (now capture) ⌝ }
     ensures { λ _. ⌜ now (capture .exit) ≡ storedFrom (now (capture .entry)) start (now (block .entry)) (min count stores) ⌝ }

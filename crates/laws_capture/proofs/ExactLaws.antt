@@ -18,7 +18,7 @@ use Rattle.capture.proofs.CallLaws.{bad-says}
 use Rattle.capture_append.specs.Appending.{misfit, takenOf}
 use Rattle.laws_capture.specs.Series.{Attempt, kept, keptWith, after}
 use Rattle.laws_capture.specs.Cuts.{Bytes}
-use Rattle.laws_capture.specs.Exact.{FirstBadAt, shown, Alike, Left, SameTold}
+use Rattle.laws_capture.specs.Exact.{FirstBadAt, shown, Alike, Left, TornAt, SameTold}
 use Rattle.laws_capture.proofs.HoldLaws.{Holds, holds-good}
 use Rattle.laws_capture.proofs.GoodLaws.{good-holds}
 use Rattle.laws_capture.proofs.SeriesTells.{series-holds}
@@ -186,6 +186,19 @@ module _ (m n : List ℕ) (alike : Alike m n) where
           ≡ cond (not s) (Part.Bad (firstBad n)) (cond (isFinished n p) (Part.Bytes (startOf p + 6) (used (blockAt n p))) (Part.Bytes 0 0))
       parts p true = finished-part-same p
       parts p false = refl
+
+-- a torn block changes nothing, however it was torn
+pub torn-told : (m n : List ℕ) (q : ℕ) → length m ≡ 65536 → TornAt m n q → SameTold m n
+torn-told m n q long t = alike-told m n alike long (t .long ∙ long)
+  where
+    alike : Alike m n
+    alike p f u = go (eqb p q) refl
+      where
+        go : (s : Bool) → eqb p q ≡ s → shown (blockAt m p) ≡ shown (blockAt n p)
+        go true e =
+            let same = eqb-true p q e in
+            rw (ap (unfinishedAt m) same ∙ t .was-open, ap (unfinishedAt n) same ∙ t .is-open) refl
+        go false e = ap shown (t .others p (eqb-false p q e))
 
 -- captures that hold the same show the same
 holds-alike : (m n : List ℕ) (ps : List (List ℕ)) → Holds m ps → Holds n ps → Alike m n

@@ -6,3 +6,4 @@ pub mod GoodLaws
 pub mod SeriesTells
 pub mod CutTells
 pub mod ExactLaws
+pub mod ReturnsValues

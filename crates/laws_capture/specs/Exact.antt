@@ -3,8 +3,9 @@ use Prim.Native.Nat.{ℕ, _<_, _≤_}
 use mathlib.Core.Path.{_≡_}
 use mathlib.Core.Bool.{true, false, cond}
 use mathlib.Core.List.{List, []}
+use lib.ListN.{length}
 use Rattle.capture.specs.Blocks.{unfinished}
-use Rattle.capture.specs.Captures.{places, blockAt, bad, firstBad, found}
+use Rattle.capture.specs.Captures.{places, blockAt, unfinishedAt, bad, firstBad, found}
 use Rattle.capture.specs.Calls.{heldOf, partOf}
 use Rattle.capture_append.specs.Appending.{takenOf}
 use Rattle.laws_capture.specs.Series.{Attempt, after}
@@ -28,6 +29,14 @@ Alike m n = (p : ℕ) → 1 ≤ p → p ≤ places → shown (blockAt m p) ≡ s
 pub record Left (m : List ℕ) : Type 0 where
   pub series : List Attempt
   pub alike : Alike (after series) m
+
+-- memory that differs from other memory only in one block, which is unfinished in both: so do any of an append's stores but the last leave
+-- it, in whatever order they are done
+pub record TornAt (m n : List ℕ) (q : ℕ) : Type 0 where
+  pub long : length n ≡ length m
+  pub others : (p : ℕ) → (p ≡ q → ⊥) → blockAt m p ≡ blockAt n p
+  pub was-open : unfinishedAt m q ≡ true
+  pub is-open : unfinishedAt n q ≡ true
 
 -- captures that show the same are answered the same
 pub record SameTold (m n : List ℕ) : Type 0 where

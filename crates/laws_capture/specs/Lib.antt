@@ -2,3 +2,4 @@
 pub mod Series
 pub mod Cuts
 pub mod Exact
+pub mod Values
