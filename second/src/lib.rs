@@ -1,6 +1,6 @@
-//! An independent second program: the reading, writing, walking and counting of the exchange's frames and the board of last
-//! quotes, written from the owner's paper and the specification (docs/RULES.md says what these are) alone, to be run beside
-//! the proved program and compared with it. It is ordinary code; nothing here is proved.
+//! An independent second program: the reading, writing, walking and counting of the exchange's frames, the board of last
+//! quotes and the capture of a line, written from the owner's paper and the specification (docs/RULES.md says what these are)
+//! alone, to be run beside the proved program and compared with it. It is ordinary code; nothing here is proved.
 
 pub mod board;
 pub mod capture;

@@ -2,6 +2,7 @@
 
 mod board;
 mod build;
+mod capture;
 mod comparing;
 mod digits;
 mod edges;
