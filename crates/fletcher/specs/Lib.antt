@@ -1,2 +1,3 @@
 -- Fletcher-16 of bytes.
 pub mod Fletcher
+pub mod Edges
