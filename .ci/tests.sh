@@ -57,6 +57,8 @@ user_tests() {
     test_on "${programs}trivsome|tests/live/|tests/reference/" "the test programs say what they cannot do" python3 tests/live/bounded.py
     test_on "${programs}trivsome|README.md|samples/|include/|examples/|tests/readme/|tests/messages/|tests/reference/" \
         "the lines of README work" python3 tests/readme/try.py
+    test_on "${programs}crates/fletcher/|crates/capture|trivsome|native/|second/|samples/|tests/capture/|tests/reference/" \
+        "a capture survives what cuts it off" python3 tests/capture/try.py
     test_on 'crates/c_|include/|native/|examples/|samples/|tests/library/|tests/reference/' "the library is used from C" sh tests/library/try.sh
     test_on 'second/|compare/|bindings/|bench/|tests/rust/' "the Rust packages are laid out, and clippy has nothing to say" sh tests/rust/try.sh
     test_on 'second/' "the second program passes its own tests" cargo_test second

@@ -96,6 +96,7 @@ program_of_modules() {
     objects -fPIE "$kept"
     c_object "$machine" status
     c_object "$machine" arguments
+    c_object "$machine" files
     compiled cc -o "$work/made" "$work"/*.o
 }
 
