@@ -1,18 +1,18 @@
 -- Parts of a block, as the code looks at them.
 use Prim.Native.Nat.{ℕ, zero, suc, _+_, _-_, _<_, _≤_}
-use mathlib.Core.Path.{_≡_, refl, sym, ap, _∙_}
+use mathlib.Core.Path.{_≡_, refl, sym, ap, ap₂, _∙_}
 use mathlib.Core.Bool.{Bool, true, false, _&&_}
 use mathlib.Core.List.{List, [], _∷_}
 use native.Mathlib.Omega.{arith}
 use borrow.Author.Tests.{eq-eqb, ne-eqb, le-leb, lt-leb}
 use lib.ListN.{length, getD, take, drop, drop-of-length-le}
-use lib.Seq.{take-nil}
+use lib.Seq.{take-nil, take-take, getD-take, getD-drop}
 use lib.Dec.{eqb}
 use Rattle.list_laws.proofs.Turns.{at-drop}
 use Rattle.fletcher.specs.declared.Sums.{Sums}
 use Rattle.fletcher.specs.Fletcher.{fletcher}
 use Rattle.capture.specs.Blocks.{number, used, allZero, zerosBehind, inRange, checkFits, intact}
-use Rattle.capture.specs.Searches.{sound}
+use Rattle.capture.specs.Searches.{formed, sound}
 
 -- zeros, byte by byte
 pub zero-turn : (l : List ℕ) (i : ℕ) → i < length l → getD l i 0 ≡ 0 → allZero (drop (i + 1) l) ≡ allZero (drop i l)
@@ -40,43 +40,55 @@ zeros-part b n is h =
     let e : n + 6 ≡ 6 + used b = omega (arith, is) in
     ap allZero (drop-take (n + 6) 510 b (omega arith) ∙ ap (λ (j : ℕ). drop j (take 510 b)) e)
 
--- range, zeros and check, one after the other
-and-no : (a : Bool) → false ≡ (a && false)
-and-no true = refl
-and-no false = refl
+module _ (b : List ℕ) (p : ℕ) where
+  -- number, range and zeros, one after the other
+  pub other-number : (number b ≡ p → ⊥) → false ≡ formed b p
+  unfolding formed
+  other-number h = rw (ne-eqb (number b) p h) refl
 
-module _ (b : List ℕ) where
-  pub none-used : used b ≡ 0 → false ≡ intact b
-  unfolding intact inRange
-  none-used h = rw h refl
+  module _ (own : number b ≡ p) where
+    pub none-used : used b ≡ 0 → false ≡ formed b p
+    unfolding formed inRange
+    none-used h = rw (eq-eqb (number b) p own, h) refl
 
-  pub too-many : 504 < used b → false ≡ intact b
-  unfolding intact inRange
-  too-many h = rw (lt-leb (used b) 504 h, le-leb 1 (used b) (omega arith)) refl
+    pub too-many : 504 < used b → false ≡ formed b p
+    unfolding formed inRange
+    too-many h = rw (eq-eqb (number b) p own, lt-leb (used b) 504 h, le-leb 1 (used b) (omega arith)) refl
 
-  pub zeros-miss : false ≡ zerosBehind b → false ≡ intact b
-  unfolding intact
-  zeros-miss h = and-no (inRange b) ∙ ap (λ (t : Bool). inRange b && (t && checkFits b)) h
+    pub zeros-decide : (used b ≡ 0 → ⊥) → used b ≤ 504 → zerosBehind b ≡ formed b p
+    unfolding formed inRange
+    zeros-decide u h = rw (eq-eqb (number b) p own, le-leb 1 (used b) (omega arith), le-leb (used b) 504 h) refl
 
-  pub check-decides : (used b ≡ 0 → ⊥) → used b ≤ 504 → true ≡ zerosBehind b → checkFits b ≡ intact b
-  unfolding intact inRange
-  check-decides p q z = rw (le-leb 1 (used b) (omega arith), le-leb (used b) 504 q, ← z) refl
+  -- and the check behind them
+  pub formed-checked : sound b p ≡ (formed b p && checkFits b)
+  unfolding sound formed intact
+  formed-checked = go (eqb (number b) p) (inRange b) (zerosBehind b)
+    where
+      go : (n r z : Bool) → (n && (r && (z && checkFits b))) ≡ ((n && (r && z)) && checkFits b)
+      go true true z = refl
+      go true false z = refl
+      go false r z = refl
 
-  -- the check: the first sum, then the second
-  pub first-misses : (s : Sums) → s ≡ fletcher (take 510 b) → (getD b 510 0 ≡ s .first → ⊥) → false ≡ checkFits b
+-- the check of a block among others: the first sum, then the second
+module _ (l : List ℕ) (start : ℕ) (s : Sums) (is : s ≡ fletcher (take (start + 510 - start) (drop start l))) where
+  abbrev b : List ℕ
+  b = take 512 (drop start l)
+
+  sums-are : s ≡ fletcher (take 510 b)
+  sums-are =
+      let e : start + 510 - start ≡ 510 = omega arith in
+      is ∙ ap (λ (n : ℕ). fletcher (take n (drop start l))) e ∙ ap fletcher (sym (take-take 510 512 (drop start l) (omega arith)))
+
+  byte-at : (i : ℕ) → i < 512 → getD l (start + i) 0 ≡ getD b i 0
+  byte-at i h = sym (getD-take 512 (drop start l) i 0 h ∙ getD-drop start l i 0)
+
+  pub first-misses : (getD l (start + 510) 0 ≡ s .first → ⊥) → false ≡ checkFits b
   unfolding checkFits
-  first-misses s is h = rw (ne-eqb (getD b 510 0) (fletcher (take 510 b) .first) (λ e. h (e ∙ ap (λ (t : Sums). t .first) (sym is)))) refl
+  first-misses h =
+      rw (ne-eqb (getD b 510 0) (fletcher (take 510 b) .first) (λ e. h (byte-at 510 (omega arith) ∙ e ∙ ap (λ (t : Sums). t .first) (sym sums-are)))) refl
 
-  pub second-decides : (s : Sums) → s ≡ fletcher (take 510 b) → getD b 510 0 ≡ s .first → eqb (getD b 511 0) (s .second) ≡ checkFits b
+  pub second-decides : getD l (start + 510) 0 ≡ s .first → eqb (getD l (start + 511) 0) (s .second) ≡ checkFits b
   unfolding checkFits
-  second-decides s is h =
-      rw (eq-eqb (getD b 510 0) (fletcher (take 510 b) .first) (h ∙ ap (λ (t : Sums). t .first) is)) (ap (λ (t : Sums). eqb (getD b 511 0) (t .second)) is)
-
-  -- and the number before them
-  pub other-number : (p : ℕ) → (number b ≡ p → ⊥) → false ≡ sound b p
-  unfolding sound
-  other-number p h = rw (ne-eqb (number b) p h) refl
-
-  pub own-number : (p : ℕ) → number b ≡ p → intact b ≡ sound b p
-  unfolding sound
-  own-number p h = rw (eq-eqb (number b) p h) refl
+  second-decides h =
+      rw (eq-eqb (getD b 510 0) (fletcher (take 510 b) .first) (sym (byte-at 510 (omega arith)) ∙ h ∙ ap (λ (t : Sums). t .first) sums-are))
+      (ap₂ eqb (byte-at 511 (omega arith)) (ap (λ (t : Sums). t .second) sums-are))

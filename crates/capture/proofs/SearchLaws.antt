@@ -1,14 +1,15 @@
 -- The searches, place by place, and the block at a place as a part of the capture.
 use Prim.Native.Nat.{ℕ, suc, _+_, _-_, _*_, _<_, _≤_}
-use mathlib.Core.Path.{_≡_, refl, sym, ap, _∙_}
-use mathlib.Core.Bool.{Bool, true, false, not, cond}
+use mathlib.Core.Path.{_≡_, refl, sym, ap, ap₂, _∙_}
+use mathlib.Core.Bool.{Bool, true, false, not, cond, _&&_}
 use mathlib.Core.List.{List}
 use native.Mathlib.Omega.{arith}
 use borrow.Author.Tests.{eq-eqb, ne-eqb}
 use lib.ListN.{length, take, drop, length-take, length-drop}
-use Rattle.capture.specs.Blocks.{number, unfinished}
+use Rattle.capture.specs.Blocks.{number, unfinished, checkFits}
 use Rattle.capture.specs.Captures.{blockAt, numbered, firstFrom}
-use Rattle.capture.specs.Searches.{sound, soundFrom, soundFirst}
+use Rattle.capture.specs.Searches.{formed, sound, soundFrom, soundFirst}
+use Rattle.capture.proofs.BlockLaws.{formed-checked}
 
 -- the place after one that is reached
 next-place : (i : ℕ) → i < 128 → 128 - i ≡ suc (128 - (i + 1))
@@ -49,21 +50,30 @@ module _ (m : List ℕ) (i : ℕ) where
         rw (next-place i h) (first-miss (numbered m) (128 - (i + 1)) (i + 1) (ap not (eq-eqb (number (blockAt m (i + 1))) 0 (sym here ∙ e))))
 
   -- sound blocks are counted
-  module _ (h : i < 128) (r : Bool) (is : r ≡ sound (take (512 * i + 512 - 512 * i) (drop (512 * i) m)) (i + 1)) where
-    judged : r ≡ sound (blockAt m (i + 1)) (i + 1)
-    judged = is ∙ ap (λ (b : List ℕ). sound b (i + 1)) slice-block
+  module _ (h : i < 128) (r : Bool) (is : r ≡ formed (take (512 * i + 512 - 512 * i) (drop (512 * i) m)) (i + 1)) where
+    formed-is : r ≡ formed (blockAt m (i + 1)) (i + 1)
+    formed-is = is ∙ ap (λ (b : List ℕ). formed b (i + 1)) slice-block
 
-    pub past-sound : r ≡ true → i + 1 + soundFrom m (128 - (i + 1)) (i + 1 + 1) ≡ i + soundFrom m (128 - i) (i + 1)
-    past-sound e =
-        let step : soundFrom m (128 - i) (i + 1) ≡ suc (soundFrom m (128 - (i + 1)) (i + 1 + 1)) =
-        rw (next-place i h) (ap (λ (t : Bool). cond t (suc (soundFrom m (128 - (i + 1)) (i + 1 + 1))) 0) (sym judged ∙ e)) in
-        omega (arith, step)
+    judged : (t : Bool) → checkFits (blockAt m (i + 1)) ≡ t → sound (blockAt m (i + 1)) (i + 1) ≡ (r && t)
+    judged t e = formed-checked (blockAt m (i + 1)) (i + 1) ∙ ap₂ _&&_ (sym formed-is) e
 
-    pub at-unsound : r ≡ false → i ≡ i + soundFrom m (128 - i) (i + 1)
-    at-unsound e =
-        let step : soundFrom m (128 - i) (i + 1) ≡ 0 =
-        rw (next-place i h) (ap (λ (t : Bool). cond t (suc (soundFrom m (128 - (i + 1)) (i + 1 + 1))) 0) (sym judged ∙ e)) in
-        omega (arith, step)
+    counted : (t : Bool) → sound (blockAt m (i + 1)) (i + 1) ≡ t → soundFrom m (128 - i) (i + 1) ≡ cond t (suc (soundFrom m (128 - (i + 1)) (i + 1 + 1))) 0
+    counted t e = rw (next-place i h) (ap (λ (u : Bool). cond u (suc (soundFrom m (128 - (i + 1)) (i + 1 + 1))) 0) e)
+
+    pub at-unformed : r ≡ false → i ≡ i + soundFrom m (128 - i) (i + 1)
+    at-unformed e = omega (arith, counted false (judged (checkFits (blockAt m (i + 1))) refl ∙ ap (λ (u : Bool). u && checkFits (blockAt m (i + 1))) e))
+
+    -- and the check
+    module _ (q : Bool) (fits : q ≡ checkFits (take 512 (drop (512 * i) m))) where
+      check-is : checkFits (blockAt m (i + 1)) ≡ q
+      unfolding blockAt
+      check-is = let f : i + 1 - 1 ≡ i = omega arith in sym (fits ∙ ap (λ (j : ℕ). checkFits (take 512 (drop (512 * j) m))) (sym f))
+
+      pub at-unsound : r ≡ true → q ≡ false → i ≡ i + soundFrom m (128 - i) (i + 1)
+      at-unsound e u = omega (arith, counted false (judged q check-is ∙ ap₂ _&&_ e u))
+
+      pub past-sound : r ≡ true → q ≡ true → i + 1 + soundFrom m (128 - (i + 1)) (i + 1 + 1) ≡ i + soundFrom m (128 - i) (i + 1)
+      past-sound e u = omega (arith, counted true (judged q check-is ∙ ap₂ _&&_ e u))
 
 -- at the ends
 pub none-behind : (m : List ℕ) (i : ℕ) → 128 ≤ i → 0 ≡ firstFrom (numbered m) (128 - i) (i + 1)

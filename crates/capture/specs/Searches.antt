@@ -4,9 +4,13 @@ use Prim.Native.Nat.{ℕ, zero, suc, _+_, _-_}
 use mathlib.Core.Bool.{Bool, cond, _&&_}
 use mathlib.Core.List.{List}
 use lib.Dec.{eqb, ltb}
-use Rattle.capture.specs.Blocks.{number, used, intact}
+use Rattle.capture.specs.Blocks.{number, used, inRange, zerosBehind, intact}
 use Rattle.capture.specs.declared.Part.{Part}
 use Rattle.capture.specs.Captures.{places, startOf, blockAt, numbered, firstFrom}
+
+-- a block that is right but for its check: its number is its place, and its range and its zeros hold
+unfoldable pub formed : List ℕ → ℕ → Bool
+formed b p = eqb (number b) p && (inRange b && zerosBehind b)
 
 -- a sound block: its number is its place, and it is intact
 unfoldable pub sound : List ℕ → ℕ → Bool

@@ -1,9 +1,9 @@
-// One block of a capture, lent as its 512 bytes.
+// One block of a capture.
 ghost use mathlib.Core.Path.{_≡_};
 ghost use Prim.Native.Nat.{_+_, _*_, _≤_};
-ghost use lib.ListN.{length};
-ghost use Rattle.capture.specs.Blocks.{blockSize, number, used, allZero, zerosBehind, checkFits, intact};
-ghost use Rattle.capture.specs.Searches.{sound};
+ghost use lib.ListN.{length, take, drop};
+ghost use Rattle.capture.specs.Blocks.{blockSize, number, used, allZero, zerosBehind, checkFits};
+ghost use Rattle.capture.specs.Searches.{formed};
 use crate::MOST;
 use fletcher::check_sums;
 
@@ -52,23 +52,14 @@ fn zeros_behind(block: &[u8], n: usize) -> bool
     all_zero(&block[from..510])
 }
 
-// The check is that of the first 510 bytes.
-fn check_fits(block: &[u8]) -> bool
+// The number is the block's place, and range and zeros hold.
+pub(crate) fn is_formed(block: &[u8], place: usize) -> bool
     requires { ⌜ length (now block) ≡ blockSize ⌝ }
-    ensures { λ r. ⌜ r ≡ checkFits (now (block .entry)) ⌝ }
+    ensures { λ r. ⌜ r ≡ formed (now (block .entry)) place ⌝ }
 {
-    let s = check_sums(&block[0..510]);
-    if block[510] != s.first {
+    if block_number(block) != place {
         return false;
     }
-    block[511] == s.second
-}
-
-// Range, zeros and check hold.
-fn is_intact(block: &[u8]) -> bool
-    requires { ⌜ length (now block) ≡ blockSize ⌝ }
-    ensures { λ r. ⌜ r ≡ intact (now (block .entry)) ⌝ }
-{
     let n = used_bytes(block);
     if n == 0 {
         return false;
@@ -76,19 +67,18 @@ fn is_intact(block: &[u8]) -> bool
     if MOST < n {
         return false;
     }
-    if zeros_behind(block, n) {
-        return check_fits(block);
-    }
-    false
+    zeros_behind(block, n)
 }
 
-// The block's number is its place, and the block is intact.
-pub(crate) fn is_sound(block: &[u8], place: usize) -> bool
-    requires { ⌜ length (now block) ≡ blockSize ⌝ }
-    ensures { λ r. ⌜ r ≡ sound (now (block .entry)) place ⌝ }
+// The check of the block that begins at a place is that of its first 510 bytes. It is lent with all the others: where the compiler does
+// not know the place it takes more of the bytes at a time.
+pub(crate) fn check_fits(bytes: &[u8], start: usize) -> bool
+    requires { ⌜ start + 512 ≤ length (now bytes) ⌝ }
+    ensures { λ r. ⌜ r ≡ checkFits (take blockSize (drop start (now (bytes .entry)))) ⌝ }
 {
-    if block_number(block) != place {
+    let s = check_sums(bytes, start, start + 510);
+    if bytes[start + 510] != s.first {
         return false;
     }
-    is_intact(block)
+    bytes[start + 511] == s.second
 }

@@ -7,7 +7,8 @@ ghost use Rattle.capture.specs.Searches.{soundFirst, numberedBehind};
 use crate::BLOCK;
 use crate::PLACES;
 use crate::blocks::block_number;
-use crate::blocks::is_sound;
+use crate::blocks::check_fits;
+use crate::blocks::is_formed;
 
 // How many sound blocks stand first.
 pub(crate) fn sound_first(capture: &[u8]) -> usize
@@ -18,7 +19,10 @@ pub(crate) fn sound_first(capture: &[u8]) -> usize
     while n < PLACES {
         let start = BLOCK * n;
         let end = start + BLOCK;
-        if !is_sound(&capture[start..end], n + 1) {
+        if !is_formed(&capture[start..end], n + 1) {
+            return n;
+        }
+        if !check_fits(capture, start) {
             return n;
         }
         n += 1;

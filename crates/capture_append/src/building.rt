@@ -45,7 +45,7 @@ pub(crate) fn block_of(place: usize, payload: &[u8]) -> [u8; 512]
     ensures { λ r. ⌜ r ≡ blockOf place (now (payload .entry)) ⌝ }
 {
     let mut block = filled(place, payload);
-    let sums = check_sums(&block[0..510]);
+    let sums = check_sums(&block, 0, 510);
     block[510] = sums.first;
     block[511] = sums.second;
     block

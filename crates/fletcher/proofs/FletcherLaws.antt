@@ -1,13 +1,16 @@
 -- Sums over bytes: in parts, within 0 to 254, and reduced late.
-use Prim.Native.Nat.{ℕ, _+_, _-_, _*_, _%_, _<_, _≤_}
+use Prim.Native.Nat.{ℕ, suc, _+_, _-_, _*_, _%_, _<_, _≤_, min}
 use mathlib.Core.Path.{_≡_, refl, sym, ap, ap₂, _∙_}
+use mathlib.Core.Bool.{Bool, true, false}
 use mathlib.Core.List.{List, [], _∷_, _++_}
 use native.Mathlib.Omega.{arith}
 use native.Mathlib.Nat.{mul-add, add-mul, one-mul}
-use lib.ListN.{getD, take, drop, length, length-drop, take-append-drop, drop-of-length-le}
-use lib.Seq.{drop-drop, take-all}
+use borrow.Author.Tests.{leb-true, leb-false}
+use lib.ListN.{getD, take, drop, length, length-drop}
+use lib.Seq.{drop-drop, take-add, take-all}
+use lib.Dec.{leb}
 use Rattle.list_laws.proofs.Turns.{at-drop}
-use Rattle.fletcher.specs.Fletcher.{sumsOf, withByte, withBytes}
+use Rattle.fletcher.specs.Fletcher.{sumsOf, withByte, withBytes, fletcher, between}
 use Rattle.fletcher.specs.declared.Sums.{Sums}
 
 -- bytes after others go on from the others' sums
@@ -34,67 +37,94 @@ small-reduced s h = ap₂ sumsOf (omega (arith, h .0)) (omega (arith, h .1))
 pub reduced-byte : (a b x : ℕ) → withByte (sumsOf (a % 255) (b % 255)) x ≡ sumsOf ((a + x) % 255) ((b + (a + x)) % 255)
 reduced-byte a b x = ap₂ sumsOf (omega arith) (omega arith)
 
--- One turn: the second sum is ahead by the first one for each byte that is left.
-module _ (bs : List ℕ) (i a b x w : ℕ) (h : i < length bs) (ahead : (length bs - i) * a ≤ b) (is : x ≡ getD bs i 0) (brings : w ≡ (length bs - i) * x) where
-  -- what is ahead after the turn
-  more : (length bs - (i + 1)) * (a + x) + (a + x) ≡ (length bs - i) * a + w
-  more =
-      let k = length bs - (i + 1) in
-      let e : length bs - i ≡ k + 1 = omega arith in
-      let f : k * (a + x) ≡ k * a + k * x = mul-add k a x in
-      let times : (y : ℕ) → (length bs - i) * y ≡ k * y + y = λ y. ap (λ (j : ℕ). j * y) e ∙ add-mul k 1 y ∙ ap (λ (j : ℕ). k * y + j) (one-mul y) in
-      omega (arith, f, times a, times x, brings)
+-- bytes from a place on: the first, and the rest; in two parts; and none
+pub between-next : (bs : List ℕ) (i to : ℕ) → i < to → i < length bs → between i to bs ≡ getD bs i 0 ∷ between (i + 1) to bs
+between-next bs i to h l =
+    let e : to - i ≡ suc (to - (i + 1)) = omega arith in
+    ap₂ take e (at-drop bs i l)
 
-  pub turn-ahead : (length bs - (i + 1)) * (a + x) ≤ b + w
+pub between-parts : (bs : List ℕ) (from mid to : ℕ) → from ≤ mid → mid ≤ to → between from to bs ≡ between from mid bs ++ between mid to bs
+between-parts bs from mid to f t =
+    let e : to - from ≡ mid - from + (to - mid) = omega arith in
+    let g : from + (mid - from) ≡ mid = omega arith in
+    ap (λ (n : ℕ). take n (drop from bs)) e ∙ take-add (mid - from) (to - mid) (drop from bs)
+    ∙ ap (λ (l : List ℕ). between from mid bs ++ take (to - mid) l) (drop-drop (mid - from) from bs ∙ ap (λ (n : ℕ). drop n bs) g)
+
+pub between-none : (bs : List ℕ) (from to : ℕ) → to ≤ from → between from to bs ≡ []
+between-none bs from to h = let e : to - from ≡ 0 = omega arith in ap (λ (n : ℕ). take n (drop from bs)) e
+
+-- what is not there is left out
+pub between-there : (bs : List ℕ) (from to : ℕ) → between from (min to (length bs)) bs ≡ between from to bs
+between-there bs from to = go (leb to (length bs)) refl
+  where
+    go : (t : Bool) → leb to (length bs) ≡ t → between from (min to (length bs)) bs ≡ between from to bs
+    go true e = let same : min to (length bs) ≡ to = omega (arith, leb-true to (length bs) e) in ap (λ (n : ℕ). between from n bs) same
+    go false e =
+        let over = leb-false to (length bs) e in
+        let l : length (drop from bs) ≡ length bs - from = length-drop from bs in
+        take-all (min to (length bs) - from) (drop from bs) (omega (arith, l, over)) ∙ sym (take-all (to - from) (drop from bs) (omega (arith, l, over)))
+
+-- One turn, where so many bytes are left and k behind it: the second sum is ahead by the first one for each byte that is left.
+module _ (a b x w left k : ℕ) (one : left ≡ k + 1) (ahead : left * a ≤ b) (brings : w ≡ left * x) where
+  times : (y : ℕ) → left * y ≡ k * y + y
+  times y = ap (λ (j : ℕ). j * y) one ∙ add-mul k 1 y ∙ ap (λ (j : ℕ). k * y + j) (one-mul y)
+
+  -- what is ahead after the turn
+  more : k * (a + x) + (a + x) ≡ left * a + w
+  more = omega (arith, mul-add k a x, times a, times x, brings)
+
+  pub turn-ahead : k * (a + x) ≤ b + w
   turn-ahead = omega (arith, more, ahead)
 
-  pub sum-turn : withBytes (sumsOf ((a + x) % 255) ((b + w - (length bs - (i + 1)) * (a + x)) % 255)) (drop (i + 1) bs)
-      ≡ withBytes (sumsOf (a % 255) ((b - (length bs - i) * a) % 255)) (drop i bs)
-  sum-turn =
-      let left = length bs - i in
-      let e : b + w - (length bs - (i + 1)) * (a + x) ≡ (b - left * a) + (a + x) = omega (arith, more, ahead) in
-      ap (λ (y : ℕ). withBytes (sumsOf ((a + x) % 255) (y % 255)) (drop (i + 1) bs)) e
-      ∙ ap (λ (s : Sums). withBytes s (drop (i + 1) bs)) (sym (reduced-byte a (b - left * a) x))
-      ∙ ap (λ (y : ℕ). withBytes (withByte (sumsOf (a % 255) ((b - left * a) % 255)) y) (drop (i + 1) bs)) is
-      ∙ ap (withBytes (sumsOf (a % 255) ((b - left * a) % 255))) (sym (at-drop bs i h))
+  pub sum-turn : (rest : List ℕ) → withBytes (sumsOf ((a + x) % 255) ((b + w - k * (a + x)) % 255)) rest ≡ withBytes (sumsOf (a % 255) ((b - left * a) % 255)) (x ∷ rest)
+  sum-turn rest =
+      let e : b + w - k * (a + x) ≡ (b - left * a) + (a + x) = omega (arith, more, ahead) in
+      ap (λ (y : ℕ). withBytes (sumsOf ((a + x) % 255) (y % 255)) rest) e
+      ∙ ap (λ (s : Sums). withBytes s rest) (sym (reduced-byte a (b - left * a) x))
 
 -- at the first turn it is ahead by what was brought, and at the last by nothing
-pub sum-starts : (n a b w : ℕ) → w ≡ n * a → (n - 0) * a ≤ b + w
-sum-starts n a b w h = let e : n - 0 ≡ n = omega arith in rw e (omega (arith, h))
+pub sum-starts : (n a b w : ℕ) → w ≡ n * a → n * a ≤ b + w
+sum-starts n a b w h = omega (arith, h)
 
-pub sum-ends : (bs : List ℕ) (i a b a₀ b₀ w : ℕ) → length bs ≤ i → w ≡ length bs * a₀
-    → withBytes (sumsOf (a % 255) ((b - (length bs - i) * a) % 255)) (drop i bs) ≡ withBytes (sumsOf (a₀ % 255) ((b₀ + w - (length bs - 0) * a₀) % 255)) bs
-    → sumsOf (a % 255) (b % 255) ≡ withBytes (sumsOf (a₀ % 255) (b₀ % 255)) bs
-sum-ends bs i a b a₀ b₀ w h brings inv =
-    let none : length bs - i ≡ 0 = omega arith in
-    let end : b - (length bs - i) * a ≡ b = ap (λ (k : ℕ). b - k * a) none ∙ omega arith in
-    let all : length bs - 0 ≡ length bs = omega arith in
-    let start : b₀ + w - (length bs - 0) * a₀ ≡ b₀ = ap (λ (k : ℕ). b₀ + w - k * a₀) all ∙ omega (arith, brings) in
+pub sum-ends : (bs : List ℕ) (from to i a b a₀ b₀ w : ℕ) → to ≤ i → w ≡ (to - from) * a₀
+    → withBytes (sumsOf (a % 255) ((b - (to - i) * a) % 255)) (between i to bs)
+    ≡ withBytes (sumsOf (a₀ % 255) ((b₀ + w - (to - from) * a₀) % 255)) (between from to bs)
+    → sumsOf (a % 255) (b % 255) ≡ withBytes (sumsOf (a₀ % 255) (b₀ % 255)) (between from to bs)
+sum-ends bs from to i a b a₀ b₀ w h brings inv =
+    let none : to - i ≡ 0 = omega arith in
+    let end : b - (to - i) * a ≡ b = ap (λ (k : ℕ). b - k * a) none ∙ omega arith in
+    let start : b₀ + w - (to - from) * a₀ ≡ b₀ = omega (arith, brings) in
     ap (λ (y : ℕ). sumsOf (a % 255) (y % 255)) (sym end)
-    ∙ ap (withBytes (sumsOf (a % 255) ((b - (length bs - i) * a) % 255))) (sym (drop-of-length-le bs {i = i} h))
+    ∙ ap (withBytes (sumsOf (a % 255) ((b - (to - i) * a) % 255))) (sym (between-none bs i to h))
     ∙ inv
-    ∙ ap (λ (y : ℕ). withBytes (sumsOf (a₀ % 255) (y % 255)) bs) start
+    ∙ ap (λ (y : ℕ). withBytes (sumsOf (a₀ % 255) (y % 255)) (between from to bs)) start
 
 -- one piece more
-module _ (bs : List ℕ) (s : Sums) (from to : ℕ) (h : Small s) (up : from ≤ to) (r : Sums)
-    (is : r ≡ withBytes (sumsOf (s .first % 255) (s .second % 255)) (take (to - from) (drop from bs))) where
-  here : r ≡ withBytes s (take (to - from) (drop from bs))
-  here = is ∙ ap (λ (t : Sums). withBytes t (take (to - from) (drop from bs))) (small-reduced s h)
+module _ (bs : List ℕ) (s : Sums) (at next end : ℕ) (h : Small s) (up : at ≤ next) (in-it : next ≤ end) (r : Sums)
+    (is : r ≡ withBytes (sumsOf (s .first % 255) (s .second % 255)) (between at next bs)) where
+  here : r ≡ withBytes s (between at next bs)
+  here = is ∙ ap (λ (t : Sums). withBytes t (between at next bs)) (small-reduced s h)
 
   pub piece-small : Small r
-  piece-small = rw here (withBytes-small s (take (to - from) (drop from bs)) h)
+  piece-small = rw here (withBytes-small s (between at next bs) h)
 
-  rest : drop to bs ≡ drop (to - from) (drop from bs)
-  rest = let e : from + (to - from) ≡ to = omega arith in rw (drop-drop, e) refl
-
-  pub piece-turn : withBytes r (drop to bs) ≡ withBytes s (drop from bs)
+  pub piece-turn : withBytes r (between next end bs) ≡ withBytes s (between at end bs)
   piece-turn =
-      ap₂ withBytes here rest
-      ∙ sym (withBytes-append s (take (to - from) (drop from bs)) (drop (to - from) (drop from bs)))
-      ∙ ap (withBytes s) (take-append-drop (to - from) (drop from bs))
+      ap (λ (t : Sums). withBytes t (between next end bs)) here
+      ∙ sym (withBytes-append s (between at next bs) (between next end bs))
+      ∙ ap (withBytes s) (sym (between-parts bs at next end up in-it))
 
 -- the last piece
-pub piece-last : (bs : List ℕ) (s : Sums) (from : ℕ) → Small s → (r : Sums)
-    → r ≡ withBytes (sumsOf (s .first % 255) (s .second % 255)) (take (length bs - from) (drop from bs)) → r ≡ withBytes s (drop from bs)
-piece-last bs s from h r is =
-    is ∙ ap₂ withBytes (small-reduced s h) (take-all (length bs - from) (drop from bs) (rw length-drop (omega arith)))
+pub piece-last : (bs : List ℕ) (s : Sums) (at end : ℕ) → Small s → (r : Sums)
+    → r ≡ withBytes (sumsOf (s .first % 255) (s .second % 255)) (between at end bs) → r ≡ withBytes s (between at end bs)
+piece-last bs s at end h r is = is ∙ ap (λ (t : Sums). withBytes t (between at end bs)) (small-reduced s h)
+
+-- the sums of what is there are those of what is asked for
+pub sums-all : (bs : List ℕ) (from to end : ℕ) (r : Sums) → end ≡ min to (length bs) → r ≡ withBytes (sumsOf 0 0) (between from end bs) → r ≡ fletcher (between from to bs)
+unfolding fletcher
+sums-all bs from to end r there is =
+    is ∙ ap (λ (n : ℕ). withBytes (sumsOf 0 0) (between from n bs)) there ∙ ap (withBytes (sumsOf 0 0)) (between-there bs from to)
+
+pub sums-none : (bs : List ℕ) (from to end : ℕ) (r : Sums) → end ≡ min to (length bs) → end ≤ from → r ≡ sumsOf 0 0 → r ≡ fletcher (between from to bs)
+sums-none bs from to end r there none is =
+    sums-all bs from to end r there (is ∙ ap (withBytes (sumsOf 0 0)) (sym (between-none bs from end none)))

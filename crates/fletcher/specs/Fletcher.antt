@@ -1,6 +1,7 @@
 -- Fletcher-16: two sums over bytes, both modulo 255, from zero.
-use Prim.Native.Nat.{ℕ, _+_, _%_}
+use Prim.Native.Nat.{ℕ, _+_, _-_, _%_}
 use mathlib.Core.List.{List, [], _∷_}
+use lib.ListN.{take, drop}
 use Rattle.fletcher.specs.declared.Sums.{Sums}
 
 -- the two sums
@@ -19,3 +20,7 @@ withBytes s (b ∷ bs) = withBytes (withByte s b) bs
 -- Fletcher-16 of bytes: their sums from zero
 unfoldable pub fletcher : List ℕ → Sums
 fletcher bs = withBytes (sumsOf 0 0) bs
+
+-- the bytes from one place up to another, as far as they are there
+abbrev pub between : ℕ → ℕ → List ℕ → List ℕ
+between from to bs = take (to - from) (drop from bs)

@@ -1,8 +1,8 @@
 // Fletcher-16 of bytes. The sums are reduced once for many bytes: until then they only grow.
 ghost use mathlib.Core.Path.{_≡_};
-ghost use Prim.Native.Nat.{_*_, _%_, _≤_};
+ghost use Prim.Native.Nat.{_+_, _*_, _%_, _≤_, min};
 ghost use lib.ListN.{length};
-ghost use Rattle.fletcher.specs.Fletcher.{sumsOf, withBytes, fletcher};
+ghost use Rattle.fletcher.specs.Fletcher.{sumsOf, withBytes, fletcher, between};
 
 // Both sums, each from 0 to 254.
 pub struct Sums {
@@ -38,37 +38,53 @@ fn reduced(first: u32, second: u32) -> Sums
     }
 }
 
-// With the bytes of a piece more. The first sum goes into the second once for each byte, and so does each byte once for itself and once
-// for each that follows it.
-fn with_piece(s: Sums, bytes: &[u8]) -> Sums
-    requires { ⌜ length (now bytes) ≤ 1020 ⌝ }
-    ensures { λ r. ⌜ r ≡ withBytes (sumsOf (s .first % 255) (s .second % 255)) (now (bytes .entry)) ⌝ }
+// With the bytes from one place up to another more. The first sum goes into the second once for each byte, and so does each byte once for
+// itself and once for each that follows it.
+fn with_piece(s: Sums, bytes: &[u8], from: usize, to: usize) -> Sums
+    requires { ⌜ (from ≤ to) × (to ≤ length (now bytes)) × (to ≤ from + 1020) ⌝ }
+    ensures { λ r. ⌜ r ≡ withBytes (sumsOf (s .first % 255) (s .second % 255)) (between from to (now (bytes .entry))) ⌝ }
 {
     let mut first = wide(s.first);
-    let mut second = wide(s.second) + weighted(bytes.len(), first);
-    let mut i = 0;
-    while i < bytes.len() {
+    let mut second = wide(s.second) + weighted(to - from, first);
+    let mut i = from;
+    while i < to {
         let b = wide(bytes[i]);
         first += b;
-        second += weighted(bytes.len() - i, b);
+        second += weighted(to - i, b);
         i += 1;
     }
     reduced(first, second)
 }
 
-// Fletcher-16 of any bytes.
-pub fn check_sums(bytes: &[u8]) -> Sums
-    ensures { λ r. ⌜ r ≡ fletcher (now (bytes .entry)) ⌝ }
+fn least(a: usize, b: usize) -> usize
+    ensures { λ r. ⌜ r ≡ min a b ⌝ }
 {
-    let mut s = Sums {
+    if a < b { a } else { b }
+}
+
+fn no_sums() -> Sums
+    ensures { λ r. ⌜ r ≡ sumsOf 0 0 ⌝ }
+{
+    Sums {
         first: 0,
         second: 0,
-    };
-    let mut from = 0;
-    while PIECE < bytes.len() - from {
-        let to = from + PIECE;
-        s = with_piece(s, &bytes[from..to]);
-        from = to;
     }
-    with_piece(s, &bytes[from..])
+}
+
+// Fletcher-16 of the bytes from one place up to another, as far as they are there.
+pub fn check_sums(bytes: &[u8], from: usize, to: usize) -> Sums
+    ensures { λ r. ⌜ r ≡ fletcher (between from to (now (bytes .entry))) ⌝ }
+{
+    let end = least(to, bytes.len());
+    if end <= from {
+        return no_sums();
+    }
+    let mut s = no_sums();
+    let mut at = from;
+    while PIECE < end - at {
+        let next = at + PIECE;
+        s = with_piece(s, bytes, at, next);
+        at = next;
+    }
+    with_piece(s, bytes, at, end)
 }

@@ -5,45 +5,45 @@ use native.Mathlib.Omega.{arith}
 use Rattle.capture.proofs.blocks.check_fits.Statement.{statement}
 use Rattle.capture.proofs.blocks.check_fits.Tie as tie
 
-sub-check-sums : tie.Need-sub-check-sums
-sub-check-sums c = search needs
-
-part-check-sums-start : tie.Need-part-check-sums-start
-part-check-sums-start c = search needs
-
-part-check-sums-end : tie.Need-part-check-sums-end
-part-check-sums-end c = search needs
+add-check-sums : tie.Need-add-check-sums
+add-check-sums c = search needs
 
 check-sums-requires : tie.Need-check-sums-requires
 check-sums-requires c κs = search needs
+
+add-if1 : tie.Need-add-if1
+add-if1 c = search needs
 
 shared-slice-read-if1 : tie.Need-shared-slice-read-if1
 shared-slice-read-if1 c = search needs
 
 returns : tie.Need-returns
 returns c =
-    let a = c .before .before .before .before .before .before .args in
+    let a = c .before .before .before .before .before .args in
     let s = c .before .before .before .check-sums in
-    first-misses (a .block .now) (s .result) (s .ensures) (λ e. omega (arith, e))
+    first-misses (a .bytes .now) (a .start) (s .result) (s .ensures) (λ e. omega (arith, e))
+
+add-result : tie.Need-add-result
+add-result c = search needs
 
 shared-slice-read-result : tie.Need-shared-slice-read-result
 shared-slice-read-result c = search needs
 
 returns-2 : tie.Need-returns-2
 returns-2 c =
-    let a = c .before .before .before .before .before .before .before .before .args in
+    let a = c .before .before .before .before .before .before .before .args in
     let s = c .before .before .before .before .before .check-sums in
-    second-decides (a .block .now) (s .result) (s .ensures) (omega arith)
+    second-decides (a .bytes .now) (a .start) (s .result) (s .ensures) (omega arith)
 
 pub check-fits-spec : {M : Type 1} → statement M
 check-fits-spec =
     tie.close
     (tie.spec
-    sub-check-sums
-    part-check-sums-start
-    part-check-sums-end
+    add-check-sums
     check-sums-requires
+    add-if1
     shared-slice-read-if1
     returns
+    add-result
     shared-slice-read-result
     returns-2)

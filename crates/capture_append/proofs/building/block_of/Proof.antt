@@ -8,14 +8,8 @@ use Rattle.capture_append.proofs.building.block_of.Tie as tie
 filled-requires : tie.Need-filled-requires
 filled-requires c κs = search needs
 
-sub-check-sums : tie.Need-sub-check-sums
-sub-check-sums c = search needs
-
-part-check-sums-start : tie.Need-part-check-sums-start
-part-check-sums-start c = search needs
-
-part-check-sums-end : tie.Need-part-check-sums-end
-part-check-sums-end c = search needs
+slice-aggregate-check-sums : tie.Need-slice-aggregate-check-sums
+slice-aggregate-check-sums c = search needs
 
 check-sums-requires : tie.Need-check-sums-requires
 check-sums-requires c κs = search needs
@@ -28,8 +22,8 @@ array-write-block-2 c = search needs
 
 returns : tie.Need-returns
 returns c =
-    let a = c .before .before .before .before .before .args in
-    let b = c .before .before .before .filled in
+    let a = c .before .before .before .before .args in
+    let b = c .before .before .filled in
     block-is (a .place) (a .payload .now) (omega arith) (omega arith) (b .result) (c .check-sums .result) (b .ensures) (c .check-sums .ensures)
 
 pub block-of-spec : {M : Type 1} → statement M
@@ -37,9 +31,7 @@ block-of-spec =
     tie.close
     (tie.spec
     filled-requires
-    sub-check-sums
-    part-check-sums-start
-    part-check-sums-end
+    slice-aggregate-check-sums
     check-sums-requires
     array-write-block
     array-write-block-2
