@@ -44,6 +44,11 @@
  *                            51  no row has this code, or there is none at this place
  *                            14  the quote could not be written
  *                            52  all rows are those of other stocks
+ *   the capture               0  done
+ *                            34  other than 65,536 bytes were lent
+ *                            31  the payload is empty or has more than 504 bytes
+ *                            33  a block is bad, with the place of the first one (trivsome_block)
+ *                            32  all 128 blocks are finished
  *
  * docs/RULES.md has the rules. Prices are in ten-thousandths, quantities in the stock's trading units; times of day are
  * numbers of the digits HHMMSSffffff or HHMMSS; codes are six characters, filled up with spaces, with no zero behind them.
@@ -72,6 +77,10 @@ enum { TRIVSOME_NOTICE = 5, TRIVSOME_QUOTE = 6, TRIVSOME_PRICES = 12, TRIVSOME_H
 /* The rows of a board, and with them the heads and the cells that it is kept in. */
 #define TRIVSOME_BOARD_ROWS 256
 #define TRIVSOME_BOARD_CELLS (26 * TRIVSOME_BOARD_ROWS)
+/* The bytes of a capture, its blocks, and the most bytes of a payload. */
+#define TRIVSOME_CAPTURE_SIZE 65536
+#define TRIVSOME_CAPTURE_BLOCKS 128
+#define TRIVSOME_PAYLOAD_MOST 504
 
 /* ------------------------------------------------------------------------------------------------------------------------
  * What a call answers.
@@ -90,7 +99,7 @@ static inline bool trivsome_is_prices(uint64_t outcome) { return trivsome_format
 static inline bool trivsome_is_halt(uint64_t outcome) { return trivsome_format(outcome) == TRIVSOME_HALT; }
 
 /* Of a reading: the frame's length for 0 and 6 to 13, else 0. Of a writing: the bytes written. Of a move: the bytes that it
- * goes past; 0 where the walk stops. */
+ * goes past; 0 where the walk stops. Of trivsome_capture_payload: the bytes of the payload, 0 where there is none. */
 static inline size_t trivsome_length(uint64_t outcome) { return (size_t)(outcome >> 16 & 65535); }
 
 /* Of a reading or a move: the number of an accepted frame, else 0. */
@@ -110,18 +119,25 @@ static inline bool trivsome_bad_half(uint64_t outcome, size_t *place)
 /* Of an arrival: the number is new. An answer of 0 that is not new is a repeat. */
 static inline bool trivsome_is_new(uint64_t outcome) { return outcome == 256; }
 
-/* Of trivsome_ledger_highest, _heard, _missing, _runs, _floor and _given_up, and of trivsome_board_in_use: the figure, where the
- * answer is 0. */
+/* Of trivsome_ledger_highest, _heard, _missing, _runs, _floor and _given_up, of trivsome_board_in_use and of
+ * trivsome_capture_finished: the figure, where the answer is 0. */
 static inline uint32_t trivsome_figure(uint64_t outcome) { return (uint32_t)(outcome >> 8); }
 
 /* Of trivsome_ledger_run and trivsome_ledger_give_up: the run's first and last number, where the answer is 0. */
 static inline uint32_t trivsome_first(uint64_t outcome) { return (uint32_t)(outcome >> 8 & 0xFFFFFFF); }
 static inline uint32_t trivsome_last(uint64_t outcome) { return (uint32_t)(outcome >> 36); }
 
+/* Of an append to a capture: the place of the new block, from 1, where the answer is 0. Of every call on a capture: the place of
+ * the first bad block beside 33. */
+static inline unsigned trivsome_block(uint64_t outcome) { return (unsigned)(outcome >> 8 & 255); }
+
+/* Of trivsome_capture_payload: where in the capture the payload begins, from 0, where the answer is 0. */
+static inline size_t trivsome_start(uint64_t outcome) { return (size_t)(outcome >> 32); }
+
 /* ------------------------------------------------------------------------------------------------------------------------
  * Messages. What a struct of zeros is, made by {0} or in C++ by {}: a notice of category 0 without text, which can be written;
  * a quote, prices or a halt that cannot, and answers 14, since six zeros are no code. Prices start from TRIVSOME_NO_PRICES
- * instead. A tally and a ledger of zeros, further below, are fresh ones, and a board of zeros is clear.
+ * instead. A tally, a ledger and a capture of zeros, further below, are fresh ones, and a board of zeros is clear.
  */
 
 typedef struct {
@@ -260,6 +276,41 @@ uint64_t trivsome_board_take_numbers(uint64_t *heads, size_t head_count, uint32_
 uint64_t trivsome_board_ask_numbers(const uint64_t *heads, size_t head_count, const uint32_t *cells, size_t cell_count, const uint8_t code[6], uint8_t bytes[9], uint64_t *time, uint32_t amounts[23]);
 uint64_t trivsome_board_row_numbers(const uint64_t *heads, size_t head_count, const uint32_t *cells, size_t cell_count, size_t place, uint8_t bytes[9], uint64_t *time, uint32_t amounts[23]);
 uint64_t trivsome_board_rows(const uint64_t *heads, size_t head_count, const uint32_t *cells, size_t cell_count);
+
+/* A capture: a line kept in 128 blocks of 512 bytes, next to each other, so that a power loss harms none that was finished. A
+ * block has its number, from 1 (4 bytes), how many bytes of its payload are used, 1 to 504 (2 bytes), the payload with zeros
+ * behind the used bytes (504), and a check, Fletcher-16 of all before it (2); numbers stand high byte first. While its number is
+ * 0 a block is unfinished, whatever else stands there. All zeros are a fresh capture: static uint8_t
+ * capture[TRIVSOME_CAPTURE_SIZE]. Each call answers 34 unless it is lent so many bytes.
+ *
+ * An append stores the 512 bytes of its block one after the other, and the last byte of the number after all the others: that
+ * store finishes the block. If power goes after any store, what is found is every block that was finished before, and the new
+ * one only if it was finished; the next append takes the first unfinished place, and stores over all that the cut left there.
+ *
+ * So much is promised of the lent memory alone, in the order in which it is stored to. What becomes of it in a file or in any
+ * other place that outlives the power is the caller's to see to: that all other bytes of the block are there for good (fsync)
+ * before the last byte of the number goes there, and that one before the next append. The program capture does so with a file.
+ *
+ * The bytes may be any, as those of a file are. Every call but the clearing looks at all blocks first, and answers 33 if one is
+ * bad: one whose number is neither 0 nor its place, that follows an unfinished block, that has less than 1 or more than 504 used
+ * bytes, other bytes than zeros behind them, or another check. */
+
+/* Makes a fresh capture of any bytes: 0 or 34. */
+uint64_t trivsome_capture_clear(uint8_t *capture, size_t size);
+
+/* Appends a payload of 1 to 504 bytes at the first unfinished place: 0 with the place (trivsome_block), 34, 31, 33 or 32. */
+uint64_t trivsome_capture_append(uint8_t *capture, size_t size, const uint8_t *payload, size_t length);
+
+/* The same, and the same answer, with the power cut after so many of its 512 stores: the capture is left as such a cut leaves it,
+ * to try what is found then. With 512 or more the append is finished. */
+uint64_t trivsome_capture_append_cut(uint8_t *capture, size_t size, const uint8_t *payload, size_t length, size_t stores);
+
+/* How many blocks are finished: 0 and the figure (trivsome_figure), 34 or 33. */
+uint64_t trivsome_capture_finished(const uint8_t *capture, size_t size);
+
+/* The payload at a place, from 1: 0 with where it begins (trivsome_start) and its length, 34 or 33. It is empty, and begins at 0,
+ * where the block is unfinished or there is no such place. */
+uint64_t trivsome_capture_payload(const uint8_t *capture, size_t size, size_t place);
 
 /* ------------------------------------------------------------------------------------------------------------------------
  * The same with structs. A reading changes the struct only if it accepts a frame of that format:
@@ -610,6 +661,19 @@ static inline uint64_t trivsome_board_row(const trivsome_board *board, size_t pl
 static inline uint64_t trivsome_board_in_use(const trivsome_board *board)
 {
     return trivsome_board_rows(board->heads, TRIVSOME_BOARD_ROWS, board->cells, TRIVSOME_BOARD_CELLS);
+}
+
+/* The payload at a place of a capture, from 1, where it stands: 0, 34 or 33. Only 0 changes the pointer that is lent; it then leads
+ * to the payload, which has trivsome_length bytes, 0 where the block is unfinished or there is no such place. So this goes over
+ * all payloads:
+ *
+ *   for (size_t place = 1; trivsome_length(trivsome_capture_payload_at(capture, size, place, &bytes)) != 0; place++) .. */
+static inline uint64_t trivsome_capture_payload_at(const uint8_t *capture, size_t size, size_t place, const uint8_t **bytes)
+{
+    uint64_t outcome = trivsome_capture_payload(capture, size, place);
+    if (trivsome_answer(outcome) == 0)
+        *bytes = capture + trivsome_start(outcome);
+    return outcome;
 }
 
 /* ------------------------------------------------------------------------------------------------------------------------

@@ -54,6 +54,7 @@ echo 'int main() { return 0; }' >"$work/none.c"
 cc -std=c11 -pedantic -Wall -Wextra -Werror -fsyntax-only -x c "$header" || differs "the header is not C11"
 tried cc -std=c11 tests/library/calls.c
 tried cc -std=c11 tests/library/bad_halves.c
+tried cc -std=c11 tests/library/captures.c
 if command -v c++ >/dev/null; then
     c++ -std=c++11 -pedantic -Wall -Wextra -Werror -fsyntax-only -x c++ "$header" || differs "the header is not C++"
     tried c++ -std=c++11 tests/library/vectors.cc
