@@ -1,6 +1,6 @@
 //! The proved library for programs in Rust. Every call takes any bytes and any numbers, and answers by the rules' numbers
 //! (docs/RULES.md): frames at any place of a line are read and messages written, lines walked, frame numbers recorded, the last
-//! quotes of stocks kept, and packed digits read.
+//! quotes of stocks kept, lines kept through a power loss, and packed digits read.
 //!
 //! ```
 //! # let bytes = [0x1B, 0x00, 0x14, 0x01, 0x05, 0x01, 0x00, 0x00, 0x00, 0x01, 0x09, 0x19, 0x0D, 0x0A];
@@ -50,6 +50,19 @@
 //! # Ok::<(), trivsome::NotTaken>(())
 //! ```
 //!
+//! A capture keeps a line in blocks. If power goes in the middle of an append, every block that was finished is found again, and
+//! never a part of one:
+//!
+//! ```
+//! let mut capture = trivsome::Capture::new();
+//! assert_eq!(capture.append(b"finished")?, 1);
+//! assert_eq!(capture.append_cut(b"not finished", 300)?, 2); // the power goes after 300 of its stores
+//! let found = trivsome::Capture::from_bytes(capture.bytes());
+//! assert_eq!(found.payloads()?.collect::<Vec<_>>(), [b"finished"]);
+//! assert_eq!(capture.append(b"finished too")?, 2);
+//! # Ok::<(), trivsome::NotAppended>(())
+//! ```
+//!
 //! Bytes of packed digits are read by a table that is taken once, and a single one by a call:
 //!
 //! ```
@@ -67,6 +80,8 @@ pub mod raw;
 // `raw` alone may have unsafe code: here not even an attribute of their own lets it in.
 #[forbid(unsafe_code)]
 mod board;
+#[forbid(unsafe_code)]
+mod capture;
 #[forbid(unsafe_code)]
 mod digits;
 #[forbid(unsafe_code)]
@@ -89,6 +104,7 @@ mod units;
 mod walking;
 
 pub use board::{Board, NotTaken, Row, Rows};
+pub use capture::{BadBlock, Capture, NotAppended, Payloads};
 pub use digits::{digit_table, two_digits, BAD_DIGIT};
 pub use halt::{read_halt, read_halt_into, write_halt, Event, Halt, Resume, Sending};
 pub use ledger::{Arrival, Ledger, LedgerRefusal, Run};

@@ -3,9 +3,11 @@
 //! An outcome is one number: the answer in bits 0 to 7, and above it what the call tells beside it. Of a reading and a move
 //! these are the format (8 to 15), the length or the bytes gone past (16 to 31), and in bits 32 to 63 an accepted frame's
 //! sequence number, or beside 1 to 13 the place of the first bad half byte plus one, 0 where no place is told. Of a writing it
-//! is the length; of a figure the figure, and of a board how many rows are in use; of a run, also of one that is given up, its
-//! first number (8 to 35) and its last (36 to 63); of an arrival how many numbers more are heard. A refused call leaves what it
-//! was lent as it came. Clearing a ledger and the calls on packed digits refuse nothing, and have no outcome.
+//! is the length; of a figure the figure, of a board how many rows are in use, and of a capture how many blocks are finished; of
+//! a run, also of one that is given up, its first number (8 to 35) and its last (36 to 63); of an arrival how many numbers more
+//! are heard. Of an append it is the place of the block (8 to 15), and so of a bad block beside 33; of a payload its length (16
+//! to 31) and where in the capture it begins (32 to 63). A refused call leaves what it was lent as it came. Clearing a ledger and
+//! the calls on packed digits refuse nothing, and have no outcome.
 #![allow(unsafe_code)]
 
 use std::mem::{offset_of, size_of};
@@ -125,6 +127,17 @@ mod calls {
             amounts: *mut [u32; 23],
         ) -> u64;
         pub fn trivsome_board_rows(heads: *const u64, head_count: usize, cells: *const u32, cell_count: usize) -> u64;
+        pub fn trivsome_capture_clear(capture: *mut u8, size: usize) -> u64;
+        pub fn trivsome_capture_append(capture: *mut u8, size: usize, payload: *const u8, length: usize) -> u64;
+        pub fn trivsome_capture_append_cut(
+            capture: *mut u8,
+            size: usize,
+            payload: *const u8,
+            length: usize,
+            stores: usize,
+        ) -> u64;
+        pub fn trivsome_capture_finished(capture: *const u8, size: usize) -> u64;
+        pub fn trivsome_capture_payload(capture: *const u8, size: usize, place: usize) -> u64;
         pub fn trivsome_two_digits(byte: u8) -> u8;
         pub fn trivsome_digit_table(table: *mut [u8; 256]);
     }
@@ -382,6 +395,44 @@ pub fn board_row(heads: &[u64], cells: &[u32], place: usize, row: &mut Row) -> u
 pub fn board_rows(heads: &[u64], cells: &[u32]) -> u64 {
     // SAFETY: heads and cells are lent for the call, each with its length.
     unsafe { calls::trivsome_board_rows(heads.as_ptr(), heads.len(), cells.as_ptr(), cells.len()) }
+}
+
+/// Makes a fresh capture: 0 or 34.
+#[inline]
+pub fn capture_clear(capture: &mut [u8]) -> u64 {
+    let (size, capture) = (capture.len(), capture.as_mut_ptr());
+    // SAFETY: the capture is lent for the call, with its size.
+    unsafe { calls::trivsome_capture_clear(capture, size) }
+}
+
+/// Appends a payload: 0, 34, 31, 33 or 32.
+#[inline]
+pub fn capture_append(capture: &mut [u8], payload: &[u8]) -> u64 {
+    let (size, capture) = (capture.len(), capture.as_mut_ptr());
+    // SAFETY: capture and payload are lent for the call, each with its length.
+    unsafe { calls::trivsome_capture_append(capture, size, payload.as_ptr(), payload.len()) }
+}
+
+/// Appends a payload with the power cut after so many stores: 0, 34, 31, 33 or 32.
+#[inline]
+pub fn capture_append_cut(capture: &mut [u8], payload: &[u8], stores: usize) -> u64 {
+    let (size, capture) = (capture.len(), capture.as_mut_ptr());
+    // SAFETY: capture and payload are lent for the call, each with its length.
+    unsafe { calls::trivsome_capture_append_cut(capture, size, payload.as_ptr(), payload.len(), stores) }
+}
+
+/// How many blocks are finished: 0, 34 or 33.
+#[inline]
+pub fn capture_finished(capture: &[u8]) -> u64 {
+    // SAFETY: the capture is lent for the call, with its size.
+    unsafe { calls::trivsome_capture_finished(capture.as_ptr(), capture.len()) }
+}
+
+/// The payload at a place, as a part of the capture: 0, 34 or 33.
+#[inline]
+pub fn capture_payload(capture: &[u8], place: usize) -> u64 {
+    // SAFETY: the capture is lent for the call, with its size.
+    unsafe { calls::trivsome_capture_payload(capture.as_ptr(), capture.len(), place) }
 }
 
 /// The number of a byte's two digits, 0 to 99, or 255 where one is bad.

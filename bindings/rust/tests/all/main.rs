@@ -2,6 +2,7 @@
 
 mod bad_halves;
 mod board;
+mod capture;
 mod digits;
 mod frames;
 mod ledger;
