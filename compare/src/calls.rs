@@ -1,5 +1,5 @@
 //! One comparison: every packed byte, and lines read, bad digits put into their frames, messages written, lines walked, numbers
-//! recorded and quotes kept, all from one seed.
+//! recorded, quotes kept and payloads appended to captures, all from one seed.
 
 use second::generate::Generator;
 use second::random::Random;
@@ -7,6 +7,7 @@ use second::random::Random;
 use crate::arrivals::Arrivals;
 use crate::bad_halves::BadHalves;
 use crate::board::Boards;
+use crate::capture::Captures;
 use crate::digits::Digits;
 use crate::reading::Readings;
 use crate::walking::Walks;
@@ -16,11 +17,14 @@ use crate::writing::Writings;
 const LINE: usize = 5000;
 const SHORT_LINES: usize = 50;
 
+/// For so many frames there is an append to a capture, which takes longer: each call looks at all of 65,536 bytes.
+const FRAMES_TO_AN_APPEND: usize = 40;
+
 /// From so many frames on everything that is counted has to occur.
 const ENOUGH: usize = 100_000;
 
-/// Compares over all packed bytes, so many frames, some short lines, and as many arrivals and messages on boards. Prints a line
-/// for each part, or gives the first difference.
+/// Compares over all packed bytes, so many frames, some short lines, as many arrivals and messages on boards, and appends to
+/// captures. Prints a line for each part, or gives the first difference.
 pub fn compare(seed: u64, frames: usize) -> Result<(), String> {
     let mut digits = Digits::default();
     digits.all()?;
@@ -52,8 +56,11 @@ pub fn compare(seed: u64, frames: usize) -> Result<(), String> {
     println!("ledger: {arrivals}");
     boards.series(&mut other, frames)?;
     println!("boards: {boards}");
+    let mut captures = Captures::default();
+    captures.series(&mut Random::new(seed.rotate_left(8)), frames / FRAMES_TO_AN_APPEND)?;
+    println!("captures: {captures}");
     let of_lines = readings.missed().or(bad_halves.missed()).or(writings.missed()).or(walks.missed());
-    match digits.missed().or(of_lines).or(arrivals.missed()).or(boards.missed()) {
+    match digits.missed().or(of_lines).or(arrivals.missed()).or(boards.missed()).or(captures.missed()) {
         Some(what) if frames >= ENOUGH => Err(format!("{what} did not occur")),
         _ => Ok(()),
     }

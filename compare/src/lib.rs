@@ -4,10 +4,13 @@
 //! Each part counts what occurred, and gives the first difference as a text that a person can follow.
 
 mod arrivals;
+mod bad_blocks;
 mod bad_halves;
 mod board;
 mod board_calls;
 mod calls;
+mod capture;
+mod capture_calls;
 mod damage;
 mod digits;
 mod disorder;
