@@ -13,6 +13,7 @@ ITEMS = {
     "writing": "a message written into a buffer that is used again",
     "arrivals": "an arrival at a ledger, which looks over its whole record at each",
     "board": "a message of 11 pairs on a full board, or a row asked for (the second program lends its own)",
+    "capture": "a payload appended, or read at its place, or how many are finished: each looks over all 65,536 bytes",
     "walk": "a frame of a line in memory, walked for its tally",
     "digits": "a packed byte read alone (the second program works it out of its halves), or a table of 256",
 }

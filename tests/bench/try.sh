@@ -36,6 +36,8 @@ part arrivals 'in order' 'with gaps' 'half of them late' 'in order, 64 runs open
     'in order, above a floor' 'in order, a floor and 63 runs open' 'late, at or below the floor' 'give up and go on'
 part board 'taken, any of 256 stocks' 'the same, any pairs' 'the same, the trade alone' 'the same, codes that begin alike' \
     "taken, the first row's stock" "taken, the last row's stock" 'refused with 52' 'asked for, any of 256 codes'
+part capture '504 bytes, until it is full' '504 bytes, the first' '1 byte, until it is full' '1 byte, the first' \
+    'looked over, full of 504 bytes' 'looked over, full of 1 byte' 'looked over, fresh' 'read at a place, full'
 part walk 'six, 9 pairs, 2 MB'
 part digits 'a byte, by the call' 'a byte, by the table taken once' 'the table filled'
 bench/run.py nonsense >"$work/said" 2>&1

@@ -1,8 +1,10 @@
 //! Times the calls of the proved library beside the second program's: reading, also of frames with a bad digit, writing, arrivals,
-//! a board, the walk of a line and packed digits. Prints for each a line of words parted by tabs: part, name, bytes, proved and second nanoseconds.
+//! a board, a capture, the walk of a line and packed digits. Prints for each a line of words parted by tabs: part, name, bytes, proved and second
+//! nanoseconds.
 
 mod arrivals;
 mod board;
+mod capture;
 mod digits;
 mod kinds;
 mod reading;
@@ -35,6 +37,7 @@ fn run(effort: Effort) -> Result<(), String> {
     }
     arrivals::arrivals(effort)?.iter().for_each(print);
     board::board(effort)?.iter().for_each(print);
+    capture::capture(effort)?.iter().for_each(print);
     print(&walking::walking(effort, &kinds)?);
     digits::digits(effort)?.iter().for_each(print);
     Ok(())
