@@ -14,16 +14,26 @@ fn store(capture: &mut [u8], start: usize, block: &[u8; 512], j: usize)
     capture[start + at] = block[at];
 }
 
-// The first stores of a block: so many, or all if there are no more.
+fn least(a: usize, b: usize) -> usize
+    ensures { λ r. ⌜ r ≡ min a b ⌝ }
+{
+    if a < b { a } else { b }
+}
+
+// The first stores of a block: so many, or all if there are no more. Those behind the number go by a loop of their own, in which a place
+// follows the one before it: so the compiler takes several at a time.
 pub(crate) fn store_some(capture: &mut [u8], start: usize, block: &[u8; 512], count: usize)
     requires { ⌜ start + 512 ≤ length (now capture) ⌝ }
     ensures { λ _. ⌜ now (capture .exit) ≡ storedFrom (now (capture .entry)) start (now (block .entry)) (min count stores) ⌝ }
 {
+    let all = least(count, BLOCK);
+    let behind = least(count, 508);
     let mut j = 0;
-    while j < count {
-        if BLOCK <= j {
-            return;
-        }
+    while j < behind {
+        store(capture, start, block, j);
+        j += 1;
+    }
+    while j < all {
         store(capture, start, block, j);
         j += 1;
     }
