@@ -4,7 +4,7 @@ use mathlib.Core.Path.{_≡_, refl, sym, ap, ap₂, _∙_}
 use mathlib.Core.Bool.{Bool, true, false, _&&_}
 use mathlib.Core.List.{List, [], _∷_}
 use native.Mathlib.Omega.{arith}
-use borrow.Author.Tests.{eq-eqb, ne-eqb, le-leb, lt-leb}
+use borrow.Author.Tests.{eq-eqb, ne-eqb, le-leb, lt-leb, eqb-true, eqb-false}
 use lib.ListN.{length, getD, take, drop, drop-of-length-le}
 use lib.Seq.{take-nil, take-take, getD-take, getD-drop}
 use lib.Dec.{eqb}
@@ -14,15 +14,30 @@ use Rattle.fletcher.specs.Fletcher.{fletcher}
 use Rattle.capture.specs.Blocks.{number, used, allZero, zerosBehind, inRange, checkFits, intact}
 use Rattle.capture.specs.Searches.{formed, sound}
 
--- zeros, byte by byte
-pub zero-turn : (l : List ℕ) (i : ℕ) → i < length l → getD l i 0 ≡ 0 → allZero (drop (i + 1) l) ≡ allZero (drop i l)
-zero-turn l i h z = sym (ap allZero (at-drop l i h) ∙ rw z refl)
+-- zeros, added up byte by byte
+zero-sum : (s x : ℕ) → (eqb s 0 && eqb x 0) ≡ eqb (s + x) 0
+zero-sum s x = go (eqb s 0) (eqb x 0) refl refl
+  where
+    go : (a b : Bool) → eqb s 0 ≡ a → eqb x 0 ≡ b → (a && b) ≡ eqb (s + x) 0
+    go true true p q = sym (eq-eqb (s + x) 0 (omega (arith, eqb-true s 0 p, eqb-true x 0 q)))
+    go true false p q = sym (ne-eqb (s + x) 0 (λ e. eqb-false x 0 q (omega (arith, e))))
+    go false b p q = sym (ne-eqb (s + x) 0 (λ e. eqb-false s 0 p (omega (arith, e))))
 
-pub zero-not : (l : List ℕ) (i : ℕ) → i < length l → (getD l i 0 ≡ 0 → ⊥) → false ≡ allZero (drop i l)
-zero-not l i h z = sym (ap allZero (at-drop l i h) ∙ ap (λ (t : Bool). t && allZero (drop (i + 1) l)) (ne-eqb (getD l i 0) 0 z))
+and-assoc : (a b c : Bool) → ((a && b) && c) ≡ (a && (b && c))
+and-assoc true b c = refl
+and-assoc false b c = refl
 
-pub zero-end : (l : List ℕ) (i : ℕ) → length l ≤ i → true ≡ allZero (drop i l)
-zero-end l i h = sym (ap allZero (drop-of-length-le l {i = i} h))
+pub zero-turn : (l : List ℕ) (i s x : ℕ) → i < length l → x ≡ getD l i 0 → (eqb (s + x) 0 && allZero (drop (i + 1) l)) ≡ (eqb s 0 && allZero (drop i l))
+zero-turn l i s x h is =
+    ap (λ (t : Bool). t && allZero (drop (i + 1) l)) (sym (zero-sum s x)) ∙ and-assoc (eqb s 0) (eqb x 0) (allZero (drop (i + 1) l))
+    ∙ ap (λ (y : ℕ). eqb s 0 && (eqb y 0 && allZero (drop (i + 1) l))) is ∙ ap (λ (r : List ℕ). eqb s 0 && allZero r) (sym (at-drop l i h))
+
+pub zero-end : (l : List ℕ) (i s : ℕ) → length l ≤ i → eqb s 0 ≡ (eqb s 0 && allZero (drop i l))
+zero-end l i s h = and-yes (eqb s 0) ∙ ap (λ (r : List ℕ). eqb s 0 && allZero r) (sym (drop-of-length-le l {i = i} h))
+  where
+    and-yes : (a : Bool) → a ≡ (a && true)
+    and-yes true = refl
+    and-yes false = refl
 
 -- what is taken of the rest is the rest of what is taken
 pub drop-take-add : (k n : ℕ) (l : List ℕ) → drop k (take (k + n) l) ≡ take n (drop k l)

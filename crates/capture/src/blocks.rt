@@ -30,17 +30,25 @@ pub(crate) fn used_bytes(block: &[u8]) -> usize
     four(0, 0, block[4], block[5])
 }
 
+fn wide(b: u8) -> u32
+    ensures { λ r. ⌜ (r ≡ b) × (r ≤ 255) ⌝ }
+{
+    b as u32
+}
+
+// Whether some bytes, no more than a payload has, are zeros. There is no way out at the first that is not: so the compiler takes several
+// at a time.
 fn all_zero(bytes: &[u8]) -> bool
+    requires { ⌜ length (now bytes) ≤ 504 ⌝ }
     ensures { λ r. ⌜ r ≡ allZero (now (bytes .entry)) ⌝ }
 {
+    let mut sum: u32 = 0;
     let mut i = 0;
     while i < bytes.len() {
-        if bytes[i] != 0 {
-            return false;
-        }
+        sum += wide(bytes[i]);
         i += 1;
     }
-    true
+    sum == 0
 }
 
 // Behind the used bytes, of which there are no more than there is room for, stand zeros.

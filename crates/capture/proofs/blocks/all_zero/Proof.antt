@@ -1,30 +1,33 @@
--- `blocks::all_zero` meets its contract: looking on from here is looking from the start.
-use Prim.Native.Nat.{_-_}
+-- `blocks::all_zero` meets its contract: what is added up so far and what is left say it of all.
+use Prim.Native.Nat.{_-_, _*_, _≤_}
 use mathlib.Core.Path.{_≡_, refl, _∙_}
+use mathlib.Core.Bool.{_&&_}
+use lib.ListN.{length, drop}
+use lib.Dec.{eqb}
+use Rattle.capture.specs.Blocks.{allZero}
+use Rattle.capture.proofs.BlockLaws.{zero-turn, zero-end}
 use borrow.Author.Needs.{needs}
 use native.Mathlib.Omega.{arith}
-use lib.ListN.{length, drop}
-use Rattle.capture.specs.Blocks.{allZero}
-use Rattle.capture.proofs.BlockLaws.{zero-turn, zero-not, zero-end}
 use Rattle.capture.proofs.blocks.all_zero.Statement.{statement}
 use Rattle.capture.proofs.blocks.all_zero.Tie as tie
 
 abbrev Inv-loop : tie.InvT-loop
-Inv-loop bytes i₀ i = allZero (drop i bytes) ≡ allZero bytes
+Inv-loop bytes sum₀ i₀ sum i = (i ≤ length bytes) × (sum ≤ 255 * i) × ((eqb sum 0 && allZero (drop i bytes)) ≡ allZero bytes)
 
 abbrev μ-loop : tie.MeasureT-loop
-μ-loop bytes i₀ i = length bytes - i
+μ-loop bytes sum₀ i₀ sum i = length bytes - i
 
 loop-holds : tie.Need-loop-holds Inv-loop μ-loop
-loop-holds c = refl
+loop-holds c = (omega arith, omega arith, refl)
 
-shared-slice-read-if1 : tie.Need-shared-slice-read-if1 Inv-loop μ-loop
-shared-slice-read-if1 c = search needs
+shared-slice-read-wide : tie.Need-shared-slice-read-wide Inv-loop μ-loop
+shared-slice-read-wide c = search needs
 
-returns : tie.Need-returns Inv-loop μ-loop
-returns c =
-    let l = c .before .before .before .loop in
-    zero-not (c .before .before .before .before .args .bytes .now) (l .i) (omega arith) (λ z. omega (arith, z)) ∙ l .inv
+wide-requires : tie.Need-wide-requires Inv-loop μ-loop
+wide-requires c κs = search needs
+
+add-sum : tie.Need-add-sum Inv-loop μ-loop
+add-sum c = search needs
 
 add-i : tie.Need-add-i Inv-loop μ-loop
 add-i c = search needs
@@ -35,12 +38,22 @@ loop-less c = search needs
 loop-again : tie.Need-loop-again Inv-loop μ-loop
 loop-again c =
     let l = c .before .before .before .loop in
-    zero-turn (c .before .before .before .before .args .bytes .now) (l .i) (omega arith) (omega arith) ∙ l .inv
+    (omega arith, omega arith, zero-turn (c .before .before .before .before .before .args .bytes .now) (l .i) (l .sum) (c .wide .result) (omega arith) (c .wide .ensures .0) ∙ l .inv .2)
 
-returns-2 : tie.Need-returns-2 Inv-loop μ-loop
-returns-2 c =
-    let l = c .before .loop in
-    zero-end (c .before .before .args .bytes .now) (l .i) (omega arith) ∙ l .inv
+returns : tie.Need-returns Inv-loop μ-loop
+returns c = let l = c .before .loop in zero-end (c .before .before .before .args .bytes .now) (l .i) (l .sum) (omega arith) ∙ l .inv .2
 
 pub all-zero-spec : {M : Type 1} → statement M
-all-zero-spec = tie.close (tie.spec Inv-loop μ-loop loop-holds shared-slice-read-if1 returns add-i loop-less loop-again returns-2)
+all-zero-spec =
+    tie.close
+    (tie.spec
+    Inv-loop
+    μ-loop
+    loop-holds
+    shared-slice-read-wide
+    wide-requires
+    add-sum
+    add-i
+    loop-less
+    loop-again
+    returns)
