@@ -283,9 +283,9 @@ uint64_t trivsome_board_rows(const uint64_t *heads, size_t head_count, const uin
  * 0 a block is unfinished, whatever else stands there. All zeros are a fresh capture: static uint8_t
  * capture[TRIVSOME_CAPTURE_SIZE]. Each call answers 34 unless it is lent so many bytes.
  *
- * An append stores the 512 bytes of its block one after the other, and the last byte of the number after all the others: that
- * store finishes the block. If power goes after any store, what is found is every block that was finished before, and the new
- * one only if it was finished; the next append takes the first unfinished place, and stores over all that the cut left there.
+ * An append stores all other bytes of its block first, and then the last byte of the number, in a store of its own: that store
+ * finishes the block. If power goes after any store, what is found is every block that was finished before, and the new one only
+ * if it was finished; the next append takes the first unfinished place, and stores over all that the cut left there.
  *
  * So much is promised of the lent memory alone, in the order in which it is stored to. What becomes of it in a file or in any
  * other place that outlives the power is the caller's to see to: that all other bytes of the block are there for good (fsync)
@@ -301,8 +301,8 @@ uint64_t trivsome_capture_clear(uint8_t *capture, size_t size);
 /* Appends a payload of 1 to 504 bytes at the first unfinished place: 0 with the place (trivsome_block), 34, 31, 33 or 32. */
 uint64_t trivsome_capture_append(uint8_t *capture, size_t size, const uint8_t *payload, size_t length);
 
-/* The same, and the same answer, with the power cut after so many of its 512 stores: the capture is left as such a cut leaves it,
- * to try what is found then. With 512 or more the append is finished. */
+/* The same, and the same answer, with the power cut after so many of its 512 bytes are stored, one after the other: the capture is
+ * left as such a cut leaves it, to try what is found then. With 512 or more the append is finished. */
 uint64_t trivsome_capture_append_cut(uint8_t *capture, size_t size, const uint8_t *payload, size_t length, size_t stores);
 
 /* How many blocks are finished: 0 and the figure (trivsome_figure), 34 or 33. */

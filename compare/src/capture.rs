@@ -68,13 +68,13 @@ impl Captures {
     fn one(&mut self, length: usize, random: &mut Random) -> Result<(), String> {
         let mut kept = begun(random);
         self.every(&kept)?;
-        if random.one_in(4) {
+        if self.stopped == 0 || random.one_in(4) {
             self.stops(&kept, random)?;
         }
         for event in 1..=length {
             self.append(&mut kept, random).map_err(|what| format!("append {event}: {what}"))?;
             let behind = |what: String| format!("behind append {event}, {what}");
-            if random.one_in(10) {
+            if random.one_in(4) {
                 self.spoilt(&kept, random).map_err(behind)?;
             }
             if random.one_in(20) {
@@ -193,7 +193,7 @@ impl Captures {
     fn spoilt(&mut self, kept: &Kept, random: &mut Random) -> Result<(), String> {
         let mut memory = kept.sides.second.clone();
         let count = kept.payloads.len();
-        let names: Vec<_> = (0..random.within(1..=2)).filter_map(|_| spoil(&mut memory, count, random)).collect();
+        let names: Vec<_> = (0..random.pick(&[1, 1, 2])).filter_map(|_| spoil(&mut memory, count, random)).collect();
         let is_bad = matches!(capture::finished(&memory), Err(Refusal::Bad(_)));
         match names[..] {
             [name] if is_bad => *self.faults.entry(name).or_default() += 1,

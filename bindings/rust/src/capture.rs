@@ -8,10 +8,9 @@ use crate::raw;
 
 /// A capture of 128 blocks, each with a payload of 1 to 504 bytes. No call copies it.
 ///
-/// An append stores the bytes of its block one after the other, and the one that finishes it last: the last byte of the block's
-/// number. If power goes after any store, what is found is every block that was finished before, and the new one only if it was
-/// finished. So much is promised of the capture's own memory; a file to which it is written is the caller's to sync, as the
-/// program `capture` does.
+/// An append stores all other bytes of its block first, and then the last byte of the number, which finishes the block. If power
+/// goes after any store, what is found is every block that was finished before, and the new one only if it was finished. So much
+/// is promised of the capture's own memory; a file to which it is written is the caller's to sync, as the program `capture` does.
 #[derive(Clone, PartialEq, Eq, Hash)]
 pub struct Capture {
     bytes: Box<[u8; Capture::SIZE]>,
@@ -131,8 +130,8 @@ impl Capture {
         place(raw::capture_append(&mut self.bytes[..], payload))
     }
 
-    /// The same, and the same answer, with the power cut after so many of its 512 stores: the capture is left as such a cut
-    /// leaves it. With 512 or more the append is finished.
+    /// The same, and the same answer, with the power cut after so many of its 512 bytes are stored, one after the other: the
+    /// capture is left as such a cut leaves it. With 512 or more the append is finished.
     ///
     /// ```
     /// # use trivsome::{Capture, NotAppended};
