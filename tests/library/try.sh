@@ -55,6 +55,13 @@ cc -std=c11 -pedantic -Wall -Wextra -Werror -fsyntax-only -x c "$header" || diff
 tried cc -std=c11 tests/library/calls.c
 tried cc -std=c11 tests/library/bad_halves.c
 tried cc -std=c11 tests/library/captures.c
+compiled steps cc -std=c11 tests/library/steps.c
+"$work/steps"
+case $? in
+0) ;;
+3) echo "library: LEFT OUT, no program can be run by steps here: an append cut after any instruction" ;;
+*) differs "an append that is cut after some instruction leaves something else" ;;
+esac
 if command -v c++ >/dev/null; then
     c++ -std=c++11 -pedantic -Wall -Wextra -Werror -fsyntax-only -x c++ "$header" || differs "the header is not C++"
     tried c++ -std=c++11 tests/library/vectors.cc
