@@ -16,12 +16,24 @@ use Rattle.capture.specs.declared.Held.{Held}
 use Rattle.capture.specs.declared.Part.{Part}
 use Rattle.capture.proofs.CallLaws.{bad-says}
 use Rattle.capture_append.specs.Appending.{misfit, takenOf}
+use Rattle.capture_append.specs.declared.Taken.{Taken}
 use Rattle.laws_capture.specs.Series.{Attempt, kept, keptWith, after}
 use Rattle.laws_capture.specs.Cuts.{Bytes}
 use Rattle.laws_capture.specs.Exact.{FirstBadAt, shown, Alike, Left, TornAt, SameTold}
 use Rattle.laws_capture.proofs.HoldLaws.{Holds, holds-good}
 use Rattle.laws_capture.proofs.GoodLaws.{good-holds}
 use Rattle.laws_capture.proofs.SeriesTells.{series-holds}
+
+-- the place in an answer of 33
+abbrev takenPlace : Taken → ℕ
+takenPlace (Taken.At p) = 0
+takenPlace (Taken.Refused n) = 0
+takenPlace (Taken.Bad p) = p
+
+abbrev partPlace : Part → ℕ
+partPlace (Part.Bytes start n) = 0
+partPlace (Part.Refused n) = 0
+partPlace (Part.Bad p) = p
 
 -- ---- the first place at which a test holds
 module _ (test : ℕ → Bool) where
@@ -59,13 +71,11 @@ module _ (test : ℕ → Bool) where
           let less : p < r = omega (arith, f, eqb-false p r other) in
           rw (none p (omega arith) less) (ih (omega (arith, less)) (omega (arith, t)) is (λ q a b. none q (omega (arith, a)) b))
 
--- 33 with a place is answered exactly where that place is the first bad one
-pub bad-first : (m : List ℕ) (p : ℕ) → Held.Bad p ≡ heldOf m → FirstBadAt m p
+-- a capture's first bad block, by the definition and as it is told
+first-said : (m : List ℕ) (p : ℕ) → p ≡ firstBad m → eqb (firstBad m) 0 ≡ false → FirstBadAt m p
 unfolding firstBad
-bad-first m p is =
-    let says = bad-says m p is in
-    let at = found-holds (bad m) 128 1 (omega arith) (eqb-false (firstBad m) 0 (says .1)) in
-    let e = says .0 in
+first-said m p e some =
+    let at = found-holds (bad m) 128 1 (omega arith) (eqb-false (firstBad m) 0 some) in
     record {
       from = omega (arith, at .0, e);
       to = omega (arith, at .1, e);
@@ -73,11 +83,52 @@ bad-first m p is =
       none-before = λ q f t. at .3 q f (omega (arith, t, e));
     }
 
+first-is-bad : (m : List ℕ) (p : ℕ) → FirstBadAt m p → firstBad m ≡ p
+unfolding firstBad
+first-is-bad m p f = first-is (bad m) 128 1 p (f .from) (omega (arith, f .to)) (f .is-bad) (f .none-before)
+
+-- 33 with a place is answered only where that place is the first bad one: of each call that answers it
+pub bad-first : (m : List ℕ) (p : ℕ) → Held.Bad p ≡ heldOf m → FirstBadAt m p
+bad-first m p is = let says = bad-says m p is in first-said m p (says .0) (says .1)
+
+pub append-bad-first : (m x : List ℕ) (p : ℕ) → Taken.Bad p ≡ takenOf m x → FirstBadAt m p
+unfolding takenOf
+append-bad-first m x p is = go (whole m) (misfit x) (eqb (firstBad m) 0) (eqb (firstUnfinished m) 0) refl is
+  where
+    go : (w s g u : Bool) → eqb (firstBad m) 0 ≡ g
+        → Taken.Bad p ≡ cond (not w) (Taken.Refused 34) (cond s (Taken.Refused 31) (cond (not g) (Taken.Bad (firstBad m)) (cond u (Taken.Refused 32) (Taken.At (firstUnfinished m)))))
+        → FirstBadAt m p
+    go false s g u b e = let y : _≡_ {A = ℕ} 0 1 = cc in absurd (omega (arith, y))
+    go true true g u b e = let y : _≡_ {A = ℕ} 0 1 = cc in absurd (omega (arith, y))
+    go true false true true b e = let y : _≡_ {A = ℕ} 0 1 = cc in absurd (omega (arith, y))
+    go true false true false b e = let y : _≡_ {A = ℕ} 0 1 = cc in absurd (omega (arith, y))
+    go true false false u b e = first-said m p (ap takenPlace e) b
+
+pub payload-bad-first : (m : List ℕ) (p q : ℕ) → Part.Bad p ≡ partOf m q → FirstBadAt m p
+unfolding partOf
+payload-bad-first m p q is = go (whole m) (eqb (firstBad m) 0) (isFinished m q) refl is
+  where
+    go : (w g f : Bool) → eqb (firstBad m) 0 ≡ g
+        → Part.Bad p ≡ cond (not w) (Part.Refused 34) (cond (not g) (Part.Bad (firstBad m)) (cond f (Part.Bytes (startOf q + 6) (used (blockAt m q))) (Part.Bytes 0 0)))
+        → FirstBadAt m p
+    go false g f b e = let y : _≡_ {A = ℕ} 0 1 = cc in absurd (omega (arith, y))
+    go true true true b e = let y : _≡_ {A = ℕ} 0 1 = cc in absurd (omega (arith, y))
+    go true true false b e = let y : _≡_ {A = ℕ} 0 1 = cc in absurd (omega (arith, y))
+    go true false f b e = first-said m p (ap partPlace e) b
+
+-- and there always: by an append of a payload that fits, and by reading any place
 pub first-bad : (m : List ℕ) (p : ℕ) → length m ≡ 65536 → FirstBadAt m p → heldOf m ≡ Held.Bad p
-unfolding heldOf firstBad
-first-bad m p long f =
-    let e : firstBad m ≡ p = first-is (bad m) 128 1 p (f .from) (omega (arith, f .to)) (f .is-bad) (f .none-before) in
-    rw (eq-eqb (length m) 65536 long, e, ne-eqb p 0 (λ z. omega (arith, z, f .from))) refl
+unfolding heldOf
+first-bad m p long f = rw (eq-eqb (length m) 65536 long, first-is-bad m p f, ne-eqb p 0 (λ z. omega (arith, z, f .from))) refl
+
+pub first-bad-append : (m x : List ℕ) (p : ℕ) → length m ≡ 65536 → misfit x ≡ false → FirstBadAt m p → takenOf m x ≡ Taken.Bad p
+unfolding takenOf
+first-bad-append m x p long fits f =
+    rw (eq-eqb (length m) 65536 long, fits, first-is-bad m p f, ne-eqb p 0 (λ z. omega (arith, z, f .from))) refl
+
+pub first-bad-payload : (m : List ℕ) (p q : ℕ) → length m ≡ 65536 → FirstBadAt m p → partOf m q ≡ Part.Bad p
+unfolding partOf
+first-bad-payload m p q long f = rw (eq-eqb (length m) 65536 long, first-is-bad m p f, ne-eqb p 0 (λ z. omega (arith, z, f .from))) refl
 
 -- ---- captures that show the same
 unfinished-shown : (b : List ℕ) → unfinished (shown b) ≡ unfinished b
