@@ -7,10 +7,11 @@ use std::io;
 use std::path::{Path, PathBuf};
 use std::process::{Command, Stdio};
 
+use crate::derivatives::{self, Derivatives2015};
+use crate::exchange::{Exchange, Stock};
 use crate::gaps::WhenFull;
 use crate::generate::Generator;
-use crate::reading::read_at;
-use crate::seen::{around, Seen};
+use crate::seen::{around_of, Seen};
 use crate::series::texts;
 use crate::{board, gaps, listing, messages, numbers, refusals, table};
 
@@ -24,7 +25,10 @@ const ENOUGH: usize = 100_000;
 /// What a program is given.
 #[derive(Clone, Copy, PartialEq, Eq)]
 enum Given {
+    /// A line of the stock exchange.
     Line,
+    /// A line of the derivatives exchange, in the edition of 2015.
+    Derivatives,
     Series,
     /// It reads nothing, and always prints the same.
     Nothing,
@@ -37,7 +41,7 @@ struct Program {
     own: fn(&[u8], &mut Vec<u8>) -> io::Result<()>,
 }
 
-const PROGRAMS: [Program; 8] = [
+const PROGRAMS: [Program; 11] = [
     Program { call: &["listing"], given: Given::Line, own: |input, output| listing::list(input, output) },
     Program { call: &["messages"], given: Given::Line, own: |input, output| messages::tell(input, output) },
     Program { call: &["refusals"], given: Given::Line, own: |input, output| refusals::tell(input, output) },
@@ -48,6 +52,21 @@ const PROGRAMS: [Program; 8] = [
         own: |input, output| gaps::tell(input, output, WhenFull::GiveUp),
     },
     Program { call: &["board"], given: Given::Line, own: |input, output| board::tell(input, output) },
+    Program {
+        call: &["listing", "derivatives-2015"],
+        given: Given::Derivatives,
+        own: |input, output| listing::list_of::<Derivatives2015, _, _>(input, output),
+    },
+    Program {
+        call: &["messages", "derivatives-2015"],
+        given: Given::Derivatives,
+        own: |input, output| messages::tell_of::<Derivatives2015, _, _>(input, output),
+    },
+    Program {
+        call: &["refusals", "derivatives-2015"],
+        given: Given::Derivatives,
+        own: |input, output| refusals::tell_of::<Derivatives2015, _, _>(input, output),
+    },
     Program { call: &["numbers"], given: Given::Series, own: |input, output| numbers::tell(input, output) },
     Program { call: &["table"], given: Given::Nothing, own: |_, output| table::tell(output) },
 ];
@@ -84,16 +103,16 @@ impl Comparison {
         Ok(Comparison { trivsome, names, folder })
     }
 
-    /// Compares all programs over so many frames, some shorter lines, and as many arrivals, and those that read nothing once.
-    /// Prints a line for each program, or gives the first difference.
+    /// Compares all programs over so many frames of their exchange, some shorter lines, and as many arrivals, and those that read
+    /// nothing once. Prints a line for each program, or gives the first difference.
     pub fn run(&self, seed: u64, frames: usize) -> Result<(), String> {
         if let Some(program) = PROGRAMS.iter().find(|program| frames >= ENOUGH && !self.has(program)) {
             return Err(format!("{} --help lists no program {}", self.trivsome.display(), program.name()));
         }
-        let mut generator = Generator::new(seed);
-        let mut seen = Seen::default();
+        let (mut generator, mut derivatives) = (Generator::new(seed), derivatives::generate::Generator::new(seed));
+        let (mut seen, mut seen_derivatives) = (Seen::default(), derivatives::seen::Seen::default());
         let mut rows = [0; PROGRAMS.len()];
-        let (mut lines, mut bytes) = (0, 0);
+        let (mut lines, mut bytes, mut derivatives_bytes) = (0, 0, 0);
         for start in (0..frames).step_by(LINE) {
             for frames in std::iter::once(LINE.min(frames - start)).chain(SHORTER) {
                 let line = generator.line(frames);
@@ -102,6 +121,11 @@ impl Comparison {
                 let within = |what: String| format!("seed {seed}, line {lines}: {what}");
                 seen.line(&line).map_err(within)?;
                 self.compare_all(Given::Line, &line, &mut rows).map_err(within)?;
+                let line = derivatives.line(frames);
+                derivatives_bytes += line.len();
+                let within = |what: String| format!("seed {seed}, line {lines} of the derivatives exchange: {what}");
+                seen_derivatives.line(&line).map_err(within)?;
+                self.compare_all(Given::Derivatives, &line, &mut rows).map_err(within)?;
             }
         }
         for (text, place) in texts(seed, frames).iter().zip(1..) {
@@ -110,6 +134,7 @@ impl Comparison {
         }
         self.compare_all(Given::Nothing, &[], &mut rows)?;
         println!("{frames} frames and {lines} lines, {bytes} bytes\n{seen}");
+        println!("as many of the derivatives exchange, {derivatives_bytes} bytes\n{seen_derivatives}");
         for (program, rows) in PROGRAMS.iter().zip(rows) {
             if self.has(program) {
                 println!("{program}: {rows} rows, all the same");
@@ -117,7 +142,7 @@ impl Comparison {
                 println!("{program}: not there to be compared");
             }
         }
-        if frames >= ENOUGH && !seen.is_all() {
+        if frames >= ENOUGH && !(seen.is_all() && seen_derivatives.is_all()) {
             return Err(format!("seed {seed}: one of the answers or places did not occur"));
         }
         Ok(())
@@ -201,13 +226,20 @@ fn difference(given: Given, input: &[u8], own: &[u8], proved: &[u8]) -> String {
         None => "no such row".into(),
     });
     let mut text = format!("row {} differs\n  proved: {proved}\n  second: {own}", same + 1);
-    if given == Given::Line {
-        if let Some(place) = place_of(&proved, &own) {
-            text += &format!("\nat {place} second answers {}\n", read_at(input, place).number());
-            text += &around(input, place);
+    if let Some(place) = place_of(&proved, &own) {
+        match given {
+            Given::Line => text += &answered::<Stock>(input, place),
+            Given::Derivatives => text += &answered::<Derivatives2015>(input, place),
+            Given::Series | Given::Nothing => {}
         }
     }
     text
+}
+
+/// What is answered at a place of a line, and the bytes there.
+fn answered<E: Exchange>(line: &[u8], place: usize) -> String {
+    let answer = E::read(line.get(place..).unwrap_or(&[])).number();
+    format!("\nat {place} second answers {answer}\n{}", around_of::<E>(line, place))
 }
 
 /// The place at which two rows part. They begin with `12,` or `{"at":12,`; two rows of skipped bytes that begin alike part

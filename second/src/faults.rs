@@ -9,7 +9,7 @@ use crate::twelve::{Prices, Slot};
 use crate::units::{Code, Price, Quantity, CODE_ZERO};
 
 /// Puts one kind of fault into a message, or tells that it has no place for it.
-type Put<T> = fn(&mut T, &mut Random) -> bool;
+pub(crate) type Put<T> = fn(&mut T, &mut Random) -> bool;
 
 const FIVE: [(&str, Put<Notice>); 3] = [
     ("five: number", |notice, random| put(&mut notice.number, above(random, 99_999_999))),
@@ -149,7 +149,7 @@ pub fn spoil(message: &mut Message, random: &mut Random) -> &'static str {
 }
 
 /// The number of a message always has a place for a fault, so this ends.
-fn spoil_by<T>(kinds: &[(&'static str, Put<T>)], message: &mut T, random: &mut Random) -> &'static str {
+pub(crate) fn spoil_by<T>(kinds: &[(&'static str, Put<T>)], message: &mut T, random: &mut Random) -> &'static str {
     loop {
         let (name, put) = random.pick(kinds);
         if put(message, random) {
@@ -158,7 +158,7 @@ fn spoil_by<T>(kinds: &[(&'static str, Put<T>)], message: &mut T, random: &mut R
     }
 }
 
-fn put<T>(field: &mut T, wrong: T) -> bool {
+pub(crate) fn put<T>(field: &mut T, wrong: T) -> bool {
     *field = wrong;
     true
 }
@@ -182,7 +182,7 @@ fn unused(prices: &mut Prices) -> &mut [Slot] {
 }
 
 /// A number above the greatest one that is allowed.
-fn above(random: &mut Random, greatest: u32) -> u32 {
+pub(crate) fn above(random: &mut Random, greatest: u32) -> u32 {
     let any = greatest + 1 + random.below(u64::from(u32::MAX - greatest)) as u32;
     random.pick(&[greatest + 1, u32::MAX, any])
 }

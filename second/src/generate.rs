@@ -111,18 +111,34 @@ fn spots() -> Vec<Spot> {
 }
 
 /// Adds a number as so many packed digits, an even count; digits above are left out.
-fn digits(bytes: &mut Vec<u8>, number: u64, count: u32) {
+pub(crate) fn digits(bytes: &mut Vec<u8>, number: u64, count: u32) {
     for place in (0..count / 2).rev() {
         let two = number / 100_u64.pow(place) % 100;
         bytes.push((two / 10 * 16 + two % 10) as u8);
     }
 }
 
-fn put_check_right(bytes: &mut [u8]) {
+pub(crate) fn put_check_right(bytes: &mut [u8]) {
     let at = bytes.len().saturating_sub(3);
     if at > 0 {
         bytes[at] = bytes[1..at].iter().fold(0, |sum, byte| sum ^ byte);
     }
+}
+
+/// A byte with a half above 9.
+pub(crate) fn bad_digit(random: &mut Random, byte: u8) -> u8 {
+    let half = 10 + random.below(6) as u8;
+    match random.below(3) {
+        0 => half << 4 | byte & 0x0F,
+        1 => byte & 0xF0 | half,
+        _ => half << 4 | half,
+    }
+}
+
+/// Puts a half at its place, counted in halves from the first byte.
+pub(crate) fn put_half(bytes: &mut [u8], place: usize, half: u8) {
+    let byte = &mut bytes[place / 2];
+    *byte = if place % 2 == 1 { *byte & 0xF0 | half } else { half << 4 | *byte & 0x0F };
 }
 
 /// How many pairs a reveal byte calls for.
@@ -366,7 +382,7 @@ impl Generator {
             }
             5 => {
                 let place = self.random.within(claim.start..=claim.end - 1);
-                bytes[place] = self.bad_digit(bytes[place]);
+                bytes[place] = bad_digit(&mut self.random, bytes[place]);
                 put_check_right(&mut bytes);
             }
             6 => bytes[check] ^= self.random.pick(&[1, 27, 0x80, 0xFF]),
@@ -384,13 +400,13 @@ impl Generator {
         match self.random.below(12) {
             0 => {
                 let place = self.random.within(0..=draft.head.len() - 1);
-                draft.head[place] = self.bad_digit(draft.head[place]);
+                draft.head[place] = bad_digit(&mut self.random, draft.head[place]);
             }
             1 => {
                 let places = draft.packed();
                 if !places.is_empty() {
                     let place = self.random.pick(&places);
-                    draft.body[place] = self.bad_digit(draft.body[place]);
+                    draft.body[place] = bad_digit(&mut self.random, draft.body[place]);
                 }
             }
             2 => {
@@ -416,16 +432,6 @@ impl Generator {
         }
     }
 
-    /// A byte with a half above 9.
-    fn bad_digit(&mut self, byte: u8) -> u8 {
-        let half = 10 + self.random.below(6) as u8;
-        match self.random.below(3) {
-            0 => half << 4 | byte & 0x0F,
-            1 => byte & 0xF0 | half,
-            _ => half << 4 | half,
-        }
-    }
-
     /// A frame with a bad half, the next one in turn, and perhaps with further ones behind it and a wrong code.
     fn bad_half(&mut self) -> Vec<u8> {
         let spot = self.spots[self.turn % self.spots.len()];
@@ -443,14 +449,13 @@ impl Generator {
         }
         for at in draft.packed().into_iter().filter(|at| 10 + at > spot.place / 2) {
             if self.random.one_in(100) {
-                draft.body[at] = self.bad_digit(draft.body[at]);
+                draft.body[at] = bad_digit(&mut self.random, draft.body[at]);
             }
         }
         let mut bytes = draft.bytes();
         let (least, greatest) = spot.values;
         let half = self.random.within(usize::from(least)..=usize::from(greatest)) as u8;
-        let byte = &mut bytes[spot.place / 2];
-        *byte = if spot.place % 2 == 1 { *byte & 0xF0 | half } else { half << 4 | *byte & 0x0F };
+        put_half(&mut bytes, spot.place, half);
         put_check_right(&mut bytes);
         bytes
     }

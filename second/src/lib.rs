@@ -1,11 +1,14 @@
-//! An independent second program: the reading, writing, walking and counting of the exchange's frames, the board of last
-//! quotes and the capture of a line, written from the owner's paper and the specification (docs/RULES.md says what these are)
-//! alone, to be run beside the proved program and compared with it. It is ordinary code; nothing here is proved.
+//! An independent second program: the reading, writing, walking and counting of the stock exchange's frames, the board of last
+//! quotes, the capture of a line, and the index values of the derivatives exchange, written from the owner's paper and the
+//! specifications (docs/RULES.md says what these are) alone, to be run beside the proved program and compared with it. It is
+//! ordinary code; nothing here is proved.
 
 pub mod board;
 pub mod capture;
 pub mod compare;
+pub mod derivatives;
 pub mod digits;
+pub mod exchange;
 pub mod faults;
 pub mod five;
 pub mod gaps;

@@ -2,7 +2,8 @@
 
 use std::io::{self, Read, Write};
 
-use crate::pieces::each_move;
+use crate::exchange::{Exchange, Shown, Stock};
+use crate::pieces::each_move_of;
 use crate::reading::Answer;
 
 /// A run of skipped bytes that may go on.
@@ -12,17 +13,23 @@ struct Run {
     bytes: u64,
 }
 
-/// Reads the input to its end and writes its listing.
-pub fn list<R: Read, W: Write>(input: R, mut output: W) -> io::Result<()> {
+/// Reads a line of the stock exchange to its end and writes its listing.
+pub fn list<R: Read, W: Write>(input: R, output: W) -> io::Result<()> {
+    list_of::<Stock, R, W>(input, output)
+}
+
+/// The same for a line of any exchange.
+pub fn list_of<E: Exchange, R: Read, W: Write>(input: R, mut output: W) -> io::Result<()> {
     let (mut accepted, mut refused, mut skipped) = (0, 0, 0);
     let mut run: Option<Run> = None;
     writeln!(output, "at,answer,bytes,format,seq")?;
-    each_move(input, |at, answer, bytes| {
+    each_move_of::<E, _, _>(input, |at, answer, bytes| {
         let bytes = bytes.len() as u64;
         match answer {
             Answer::Accepted { message, .. } => {
                 end_run(&mut run, &mut output)?;
-                writeln!(output, "{at},0,{bytes},{},{}", message.format(), message.number())?;
+                let (format, number) = message.listed();
+                writeln!(output, "{at},0,{bytes},{format},{number}")?;
                 accepted += bytes;
             }
             Answer::Refused { why, .. } => {

@@ -1,19 +1,25 @@
 //! The messages of a closed line: a JSON object a line for each accepted frame, without blanks outside strings.
 
-use std::fmt;
+use std::fmt::{self, Display};
 use std::io::{self, Read, Write};
 
+use crate::exchange::{Exchange, Shown, Stock};
 use crate::nineteen::{Event, Halt, Resume, State};
-use crate::pieces::each_move;
+use crate::pieces::each_move_of;
 use crate::reading::Message;
 use crate::six::{Pair, Quote};
 use crate::twelve::{Prices, Slot};
-use crate::units::{Code, Price};
+use crate::units::Price;
 use crate::{five::Notice, times};
 
-/// Reads the input to its end and writes its messages.
-pub fn tell<R: Read, W: Write>(input: R, mut output: W) -> io::Result<()> {
-    each_move(input, |at, answer, _| match answer.message() {
+/// Reads a line of the stock exchange to its end and writes its messages.
+pub fn tell<R: Read, W: Write>(input: R, output: W) -> io::Result<()> {
+    tell_of::<Stock, R, W>(input, output)
+}
+
+/// The same for a line of any exchange.
+pub fn tell_of<E: Exchange, R: Read, W: Write>(input: R, mut output: W) -> io::Result<()> {
+    each_move_of::<E, _, _>(input, |at, answer, _| match answer.message() {
         Some(message) => writeln!(output, "{}", Object { at, message }),
         None => Ok(()),
     })?;
@@ -21,15 +27,25 @@ pub fn tell<R: Read, W: Write>(input: R, mut output: W) -> io::Result<()> {
 }
 
 /// A message at its place, to be shown as a JSON object.
-pub struct Object<'a> {
+pub struct Object<'a, M = Message> {
     pub at: u64,
-    pub message: &'a Message,
+    pub message: &'a M,
 }
 
-impl fmt::Display for Object<'_> {
+impl<M: Shown> Display for Object<'_, M> {
     fn fmt(&self, f: &mut fmt::Formatter) -> fmt::Result {
-        write!(f, "{{\"at\":{},\"format\":{},\"seq\":{},", self.at, self.message.format(), self.message.number())?;
-        match self.message {
+        self.message.object(self.at, f)
+    }
+}
+
+impl Shown for Message {
+    fn listed(&self) -> (impl Display, u32) {
+        (self.format(), self.number())
+    }
+
+    fn object(&self, at: u64, f: &mut fmt::Formatter) -> fmt::Result {
+        write!(f, "{{\"at\":{at},\"format\":{},\"seq\":{},", self.format(), self.number())?;
+        match self {
             Message::Five(notice) => notice_keys(f, notice),
             Message::Six(quote) => quote_keys(f, quote),
             Message::Twelve(prices) => prices_keys(f, prices),
@@ -125,10 +141,10 @@ fn array<T>(f: &mut fmt::Formatter, items: &[T], show: fn(&mut fmt::Formatter, &
     f.write_str("]")
 }
 
-/// A code as a string, its spaces kept.
-pub(crate) struct Text<'a>(pub(crate) &'a Code);
+/// A code as a string, its spaces kept. Its bytes are 32 to 126.
+pub(crate) struct Text<'a>(pub(crate) &'a [u8]);
 
-impl fmt::Display for Text<'_> {
+impl Display for Text<'_> {
     fn fmt(&self, f: &mut fmt::Formatter) -> fmt::Result {
         f.write_str("\"")?;
         for &byte in self.0 {
@@ -144,7 +160,7 @@ impl fmt::Display for Text<'_> {
 /// A price as a string with four decimals.
 struct Decimals(Price);
 
-impl fmt::Display for Decimals {
+impl Display for Decimals {
     fn fmt(&self, f: &mut fmt::Formatter) -> fmt::Result {
         let ten_thousandths = self.0 .0;
         write!(f, "\"{}.{:04}\"", ten_thousandths / 10_000, ten_thousandths % 10_000)
@@ -154,7 +170,7 @@ impl fmt::Display for Decimals {
 /// HHMMSS as a string.
 struct Short(u32);
 
-impl fmt::Display for Short {
+impl Display for Short {
     fn fmt(&self, f: &mut fmt::Formatter) -> fmt::Result {
         write!(f, "\"{:02}:{:02}:{:02}\"", self.0 / 10_000, self.0 / 100 % 100, self.0 % 100)
     }
@@ -163,7 +179,7 @@ impl fmt::Display for Short {
 /// HHMMSSffffff as a string, or null for twelve nines; a key of its own behind it says what those mean.
 pub(crate) struct Long(pub(crate) u64);
 
-impl fmt::Display for Long {
+impl Display for Long {
     fn fmt(&self, f: &mut fmt::Formatter) -> fmt::Result {
         if self.0 == times::LONG_NINES {
             return f.write_str("null");

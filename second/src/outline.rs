@@ -16,14 +16,7 @@ pub const TAIL: usize = 3;
 
 /// The length of the frame that the bytes begin with, if its outline is whole.
 pub fn outline(bytes: &[u8]) -> Result<usize, NoFrame> {
-    match bytes.first() {
-        None => return Err(NoFrame::TooFewBytes),
-        Some(&first) if first != ESC => return Err(NoFrame::NotAStart),
-        Some(_) => {}
-    }
-    if bytes.len() < 3 {
-        return Err(NoFrame::TooFewBytes);
-    }
+    begins(bytes, 3)?;
     let length = match digits::number(&bytes[1..3]) {
         Some(length) => length as usize,
         None => return Err(NoFrame::Length),
@@ -31,17 +24,32 @@ pub fn outline(bytes: &[u8]) -> Result<usize, NoFrame> {
     if !(LEAST_LENGTH..=GREATEST_LENGTH).contains(&length) {
         return Err(NoFrame::Length);
     }
-    if bytes.len() < length {
-        return Err(NoFrame::TooFewBytes);
+    ends(bytes, length)?;
+    Ok(length)
+}
+
+/// Whether a frame begins here, with as many bytes as its length is told in.
+#[inline]
+pub(crate) fn begins(bytes: &[u8], told: usize) -> Result<(), NoFrame> {
+    match bytes.first() {
+        None => Err(NoFrame::TooFewBytes),
+        Some(&first) if first != ESC => Err(NoFrame::NotAStart),
+        Some(_) if bytes.len() < told => Err(NoFrame::TooFewBytes),
+        Some(_) => Ok(()),
     }
-    let frame = &bytes[..length];
+}
+
+/// Whether so many bytes are there and end as a frame does.
+#[inline]
+pub(crate) fn ends(bytes: &[u8], length: usize) -> Result<(), NoFrame> {
+    let frame = bytes.get(..length).ok_or(NoFrame::TooFewBytes)?;
     if frame[length - 2..] != END {
         return Err(NoFrame::End);
     }
     if frame[length - 3] != check_byte(frame) {
         return Err(NoFrame::Check);
     }
-    Ok(length)
+    Ok(())
 }
 
 /// The exclusive-or of the second byte up to the last byte of the body.

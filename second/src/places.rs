@@ -7,7 +7,7 @@ use crate::reading::{NoFrame, Refusal};
 
 /// A field 9(n) of a frame: its first byte, from 0, and n. With an odd n its first half is no digit and has to be 0.
 #[derive(Clone, Copy)]
-struct Field {
+pub(crate) struct Field {
     at: usize,
     digits: usize,
 }
@@ -21,12 +21,12 @@ const PAIR: usize = 9;
 const BODY: usize = 10;
 
 impl Field {
-    const fn new(at: usize, digits: usize) -> Field {
+    pub(crate) const fn new(at: usize, digits: usize) -> Field {
         Field { at, digits }
     }
 
     /// The first bad half of the field.
-    fn bad(self, frame: &[u8]) -> Option<usize> {
+    pub(crate) fn bad(self, frame: &[u8]) -> Option<usize> {
         let unused = self.digits % 2;
         let first = 2 * self.at;
         let greatest = |place: usize| if place < first + unused { 0 } else { 9 };
@@ -83,7 +83,7 @@ fn in_body(frame: &[u8]) -> Option<usize> {
 }
 
 /// The first bad half of fields that are given in the order of the frame.
-fn first_bad(frame: &[u8], fields: impl IntoIterator<Item = Field>) -> Option<usize> {
+pub(crate) fn first_bad(frame: &[u8], fields: impl IntoIterator<Item = Field>) -> Option<usize> {
     fields.into_iter().find_map(|field| field.bad(frame))
 }
 

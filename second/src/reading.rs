@@ -61,16 +61,16 @@ impl Message {
     }
 }
 
-/// A place is that of the first bad half, for 6, 11, and 3 where a digit is bad.
-#[expect(clippy::large_enum_variant, reason = "a box would cost an allocation for each frame, as in a message")]
+/// What a reading says, with the messages of an exchange. A place is that of the first bad half, for 6, 11, and 3 where a digit
+/// is bad.
 #[derive(Clone, Copy, Debug, PartialEq, Eq)]
-pub enum Answer {
-    Accepted { length: usize, message: Message },
+pub enum Answer<M = Message> {
+    Accepted { length: usize, message: M },
     Refused { length: usize, why: Refusal, place: Option<usize> },
     NoFrame { why: NoFrame, place: Option<usize> },
 }
 
-impl Answer {
+impl<M> Answer<M> {
     /// The number in the rules.
     pub fn number(&self) -> u8 {
         match *self {
@@ -97,7 +97,7 @@ impl Answer {
     }
 
     /// The message, for 0.
-    pub fn message(&self) -> Option<&Message> {
+    pub fn message(&self) -> Option<&M> {
         match self {
             Answer::Accepted { message, .. } => Some(message),
             _ => None,

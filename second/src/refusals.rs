@@ -4,25 +4,31 @@
 use std::fmt;
 use std::io::{self, Read, Write};
 
-use crate::pieces::each_move;
+use crate::exchange::{Exchange, Stock};
+use crate::pieces::each_move_of;
 use crate::reading::{Answer, NoFrame, Refusal};
 
 /// The most bytes that are shown of a frame or a run.
 const SHOWN: usize = 64;
 
-/// Reads the input to its end and writes its refusals.
-pub fn tell<R: Read, W: Write>(input: R, mut output: W) -> io::Result<()> {
+/// Reads a line of the stock exchange to its end and writes its refusals.
+pub fn tell<R: Read, W: Write>(input: R, output: W) -> io::Result<()> {
+    tell_of::<Stock, R, W>(input, output)
+}
+
+/// The same for a line of any exchange.
+pub fn tell_of<E: Exchange, R: Read, W: Write>(input: R, mut output: W) -> io::Result<()> {
     let mut run: Option<Row> = None;
-    each_move(input, |at, answer, bytes| {
+    each_move_of::<E, _, _>(input, |at, answer, bytes| {
         if let Answer::NoFrame { .. } = answer {
-            run.get_or_insert_with(|| Row::new(at, answer)).add(bytes);
+            run.get_or_insert_with(|| Row::new::<E>(at, answer)).add(bytes);
             return Ok(());
         }
         if let Some(ended) = run.take() {
             writeln!(output, "{ended}")?;
         }
         if let Answer::Refused { .. } = answer {
-            let mut row = Row::new(at, answer);
+            let mut row = Row::new::<E>(at, answer);
             row.add(bytes);
             writeln!(output, "{row}")?;
         }
@@ -47,8 +53,8 @@ struct Row {
 
 impl Row {
     /// A row without bytes yet, with the answer at its first one.
-    fn new(at: u64, answer: &Answer) -> Row {
-        Row { at, answer: answer.number(), place: answer.place(), why: why(answer), bytes: 0, first: [0; SHOWN] }
+    fn new<E: Exchange>(at: u64, answer: &Answer<E::Message>) -> Row {
+        Row { at, answer: answer.number(), place: answer.place(), why: why::<E>(answer), bytes: 0, first: [0; SHOWN] }
     }
 
     fn add(&mut self, bytes: &[u8]) {
@@ -84,27 +90,25 @@ fn hex(bytes: &[u8]) -> String {
 }
 
 /// The words for an answer; an accepted frame has none.
-fn why(answer: &Answer) -> &'static str {
+fn why<E: Exchange>(answer: &Answer<E::Message>) -> &'static str {
     match *answer {
         Answer::Accepted { .. } => "",
-        Answer::Refused { why, .. } => why_refused(why),
+        Answer::Refused { why, .. } => E::why_refused(why),
+        Answer::NoFrame { why: NoFrame::NotAStart, .. } => "no frame begins here: the first byte is not 1B",
+        Answer::NoFrame { why: NoFrame::TooFewBytes, .. } => "the line ends before this frame does",
         Answer::NoFrame { why: NoFrame::Length, place: Some(_) } => "the length has a bad digit",
-        Answer::NoFrame { why, .. } => why_skipped(why),
+        Answer::NoFrame { why: NoFrame::Length, place: None } => E::WHY_LENGTH,
+        Answer::NoFrame { why: NoFrame::End, .. } => "the frame does not end in 0D 0A where its length says",
+        Answer::NoFrame { why: NoFrame::Check, .. } => {
+            "the check byte is not the exclusive-or of the bytes that it covers"
+        }
     }
 }
 
-/// For a length: that its digits are good.
-fn why_skipped(why: NoFrame) -> &'static str {
-    match why {
-        NoFrame::NotAStart => "no frame begins here: the first byte is not 1B",
-        NoFrame::TooFewBytes => "the line ends before this frame does",
-        NoFrame::Length => "the length is below 14 or above 1024",
-        NoFrame::End => "the frame does not end in 0D 0A where its length says",
-        NoFrame::Check => "the check byte is not the exclusive-or of the bytes that it covers",
-    }
-}
+/// The words of the stock exchange.
+pub(crate) const WHY_LENGTH: &str = "the length is below 14 or above 1024";
 
-fn why_refused(why: Refusal) -> &'static str {
+pub(crate) fn why_refused(why: Refusal) -> &'static str {
     match why {
         Refusal::HeaderDigit => "the header, bytes 4 to 10, has a bad digit",
         Refusal::Format => "the business is not 01, or the format is not 05, 06, 12 or 19",

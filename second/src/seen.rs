@@ -5,11 +5,12 @@ use std::collections::BTreeMap;
 use std::fmt;
 
 use crate::board::{self, Row};
+use crate::exchange::{Exchange, Stock};
 use crate::gaps::{hear, WhenFull};
 use crate::halves::Halves;
 use crate::ledger::{Arrival, Ledger, Refusal};
 use crate::outline::HEAD;
-use crate::reading::{self, read_at, Answer, Message};
+use crate::reading::{self, Answer, Message};
 use crate::six::{Pair, Quote, Reveal, MOST_LEVELS, REVEAL};
 use crate::units::Code;
 use crate::walk::{walk, Line};
@@ -62,7 +63,7 @@ impl Seen {
                 self.levels[levels_case(&line[step.place..step.place + length])] += 1;
             }
             if let Answer::Accepted { length, message } = &step.answer {
-                write_back(&line[step.place..step.place + length], message)
+                write_back(&line[step.place..step.place + length], |buffer| write(message, buffer))
                     .map_err(|what| format!("{what}\n{}", around(line, step.place)))?;
                 let format = match message {
                     Message::Five(_) => 0,
@@ -210,26 +211,32 @@ pub fn shown_case(quote: &Quote) -> usize {
     }
 }
 
-/// The message gives the frame's own bytes and changes none behind them; a buffer one byte short is refused with 15.
-fn write_back(frame: &[u8], message: &Message) -> Result<(), String> {
+/// The writing of a frame's message gives the frame's own bytes and changes none behind them; a buffer one byte short is refused
+/// with 15.
+pub(crate) fn write_back(frame: &[u8], write: impl Fn(&mut [u8]) -> Result<usize, NotWritten>) -> Result<(), String> {
     const BEHIND: u8 = 0xEE;
     let mut buffer = vec![BEHIND; frame.len() + 5];
-    if write(message, &mut buffer) != Ok(frame.len()) || !buffer.starts_with(frame) {
+    if write(&mut buffer) != Ok(frame.len()) || !buffer.starts_with(frame) {
         return Err(format!("written back it is another frame: {}", hex(&buffer)));
     }
     if buffer[frame.len()..].iter().any(|&byte| byte != BEHIND) {
         return Err("writing it back changes bytes behind it".into());
     }
     let mut short = vec![BEHIND; frame.len() - 1];
-    if write(message, &mut short) != Err(NotWritten::Buffer) || short.iter().any(|&byte| byte != BEHIND) {
+    if write(&mut short) != Err(NotWritten::Buffer) || short.iter().any(|&byte| byte != BEHIND) {
         return Err("a buffer one byte short is not refused with 15 and left as it came".into());
     }
     Ok(())
 }
 
-/// The bytes of the frame at a place, or some if there is none, and 16 on either side.
+/// The bytes of the frame at a place of a stock line, or some if there is none, and 16 on either side.
 pub fn around(line: &[u8], place: usize) -> String {
-    let length = read_at(line, place).length().unwrap_or(64);
+    around_of::<Stock>(line, place)
+}
+
+/// The same for a line of any exchange.
+pub fn around_of<E: Exchange>(line: &[u8], place: usize) -> String {
+    let length = E::read(line.get(place..).unwrap_or(&[])).length().unwrap_or(64);
     let cut = |from: usize, to: usize| hex(&line[from.min(line.len())..to.min(line.len())]);
     let (before, behind) = (cut(place.saturating_sub(16), place), cut(place + length, place + length + 16));
     format!("before: {before}\nfrom {place} on: {}\nbehind: {behind}", cut(place, place + length))

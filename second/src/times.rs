@@ -1,4 +1,4 @@
-//! Times, as the numbers of their digits: HHMMSS, or HHMMSS and six digits of fraction.
+//! Times, as the numbers of their digits: HHMMSS, or HHMMSS and six digits of fraction, or two at the derivatives exchange.
 
 /// Twelve nines: in format six the day's last frame, in format twelve a closing price.
 pub const LONG_NINES: u64 = 999_999_999_999;
@@ -10,6 +10,11 @@ pub const SHORT_NINES: u32 = 999_999;
 pub fn is_short(time: u32) -> bool {
     let (hours, minutes, seconds) = (time / 10_000, time / 100 % 100, time % 100);
     hours <= 23 && minutes <= 59 && seconds <= 59
+}
+
+/// Whether HHMMSScc is a time of day; the hundredths are free.
+pub fn is_hundredths(time: u32) -> bool {
+    is_short(time / 100)
 }
 
 /// Whether HHMMSSffffff is a time of day; the fraction is free.

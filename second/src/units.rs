@@ -1,4 +1,4 @@
-//! Prices, quantities, and the code of a stock.
+//! Prices, quantities, index values, and the code of a stock.
 
 use crate::digits;
 
@@ -41,6 +41,25 @@ impl Quantity {
     }
 }
 
+/// An index value of the derivatives exchange, in thousandths: eight digits in four packed bytes.
+#[derive(Clone, Copy, Debug, Default, PartialEq, Eq, PartialOrd, Ord)]
+pub struct Thousandths(pub u32);
+
+impl Thousandths {
+    /// 99,999.999.
+    pub const MAX: Thousandths = Thousandths(99_999_999);
+    pub const SIZE: usize = 4;
+
+    /// `None` for a bad digit.
+    pub fn unpack(field: &[u8]) -> Option<Thousandths> {
+        digits::number(field).map(|number| Thousandths(number as u32))
+    }
+
+    pub fn pack(self, field: &mut [u8]) {
+        digits::pack(u64::from(self.0), field);
+    }
+}
+
 /// A code as it stands in the frame, with its spaces.
 pub type Code = [u8; 6];
 
@@ -49,7 +68,12 @@ pub const CODE_ZERO: Code = *b"000000";
 
 /// Whether all bytes of a code are 32 to 126.
 pub fn is_code(code: &Code) -> bool {
-    code.iter().all(|byte| (32..=126).contains(byte))
+    is_printed(code)
+}
+
+/// Whether all of some bytes are 32 to 126.
+pub fn is_printed(bytes: &[u8]) -> bool {
+    bytes.iter().all(|byte| (32..=126).contains(byte))
 }
 
 /// The first six bytes of a field as a code.

@@ -1,6 +1,9 @@
 //! The walk over a line, and its tally of bytes.
 
-use crate::reading::{read, Answer, NoFrame};
+use std::marker::PhantomData;
+
+use crate::exchange::{Exchange, Stock};
+use crate::reading::{Answer, Message, NoFrame};
 
 /// Whether more bytes may come behind the line.
 #[derive(Clone, Copy, Debug, PartialEq, Eq)]
@@ -11,9 +14,9 @@ pub enum Line {
 
 /// One move of a walk: the answer at a place, and how many bytes it takes.
 #[derive(Clone, Copy, Debug, PartialEq, Eq)]
-pub struct Move {
+pub struct Move<M = Message> {
     pub place: usize,
-    pub answer: Answer,
+    pub answer: Answer<M>,
     pub bytes: usize,
     pub kind: Kind,
 }
@@ -29,26 +32,33 @@ pub enum Kind {
 
 /// The moves over a line, from its first byte to its end. On an open line answer 2 makes the last move, whose bytes are all
 /// the rest.
-pub struct Walk<'a> {
+pub struct Walk<'a, E = Stock> {
     bytes: &'a [u8],
     line: Line,
     place: usize,
+    exchange: PhantomData<E>,
 }
 
+/// The walk over a line of the stock exchange.
 pub fn walk(bytes: &[u8], line: Line) -> Walk<'_> {
-    Walk { bytes, line, place: 0 }
+    walk_of(bytes, line)
 }
 
-impl Iterator for Walk<'_> {
-    type Item = Move;
+/// The same over a line of any exchange.
+pub fn walk_of<E: Exchange>(bytes: &[u8], line: Line) -> Walk<'_, E> {
+    Walk { bytes, line, place: 0, exchange: PhantomData }
+}
 
-    fn next(&mut self) -> Option<Move> {
+impl<E: Exchange> Iterator for Walk<'_, E> {
+    type Item = Move<E::Message>;
+
+    fn next(&mut self) -> Option<Self::Item> {
         let place = self.place;
         let rest = &self.bytes[place..];
         if rest.is_empty() {
             return None;
         }
-        let answer = read(rest);
+        let answer = E::read(rest);
         let (bytes, kind) = match answer {
             Answer::Accepted { length, .. } => (length, Kind::Accepted),
             Answer::Refused { length, .. } => (length, Kind::Refused),
@@ -79,14 +89,19 @@ impl TooMuch {
 }
 
 impl Tally {
-    /// Walks a line and moves the tally on: the first three figures grow, the waiting figure is replaced.
+    /// Walks a line of the stock exchange and moves the tally on: the first three figures grow, the waiting figure is replaced.
     pub fn walk(&mut self, bytes: &[u8], line: Line) -> Result<(), TooMuch> {
+        self.walk_of::<Stock>(bytes, line)
+    }
+
+    /// The same over a line of any exchange.
+    pub fn walk_of<E: Exchange>(&mut self, bytes: &[u8], line: Line) -> Result<(), TooMuch> {
         let length = bytes.len() as u64;
         for figure in [self.accepted, self.refused, self.skipped] {
             figure.checked_add(length).ok_or(TooMuch)?;
         }
         self.waiting = 0;
-        for step in walk(bytes, line) {
+        for step in walk_of::<E>(bytes, line) {
             let figure = match step.kind {
                 Kind::Accepted => &mut self.accepted,
                 Kind::Refused => &mut self.refused,

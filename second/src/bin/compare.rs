@@ -7,9 +7,10 @@ use std::time::{SystemTime, UNIX_EPOCH};
 use second::compare::Comparison;
 
 const USAGE: &str = "compare [--seed N] [--frames M] [--forever] [TRIVSOME]
-Makes lines of M frames (100,000) from a seed (1), runs each proved program that TRIVSOME --help lists (../trivsome, seen
-from this package) on them, or once if it reads nothing, and compares what it prints with what this package says. Ends with
-1 at the first difference, and with 100,000 frames or more also where a program is not listed.
+Makes lines of M frames (100,000) of each exchange from a seed (1), runs each proved program that TRIVSOME --help lists
+(../trivsome, seen from this package) on those that it reads, or once if it reads nothing, and compares what it prints with
+what this package says. Ends with 1 at the first difference, and with 100,000 frames or more also where a program is not
+listed, or where an answer or a place did not occur.
 --forever goes on with new seeds, the first from the clock, until it is stopped.";
 
 struct Wanted {

@@ -63,5 +63,30 @@ pub fn table(count: &str, slots: &[Vec<u8>]) -> Vec<u8> {
     bytes
 }
 
+/// A frame of the derivatives exchange: transmission code and kind, then time, number and version as hex digits.
+pub fn index(codes: &str, head: &str, body: &[u8]) -> Vec<u8> {
+    index_of(codes, head, &format!("{:04}", body.len()), body)
+}
+
+/// The same with a length of its own.
+pub fn index_of(codes: &str, head: &str, length: &str, body: &[u8]) -> Vec<u8> {
+    let mut inner = codes.as_bytes().to_vec();
+    inner.extend(hex(head));
+    inner.extend(hex(length));
+    inner.extend(body);
+    let check = inner.iter().fold(0, |sum, byte| sum ^ byte);
+    let mut bytes = vec![27];
+    bytes.extend(inner);
+    bytes.extend([check, 0x0D, 0x0A]);
+    bytes
+}
+
+/// I060 of the futures, number 7, sent at 13:30:00.25: TXF at 13:29:59.95 stood at 17,234.567.
+pub const I060: &str = "1B 31 35 13 30 00 25 00 00 00 07 02 00 12 54 58 46 13 29 59 95 17 23 45 67 00 BF 0D 0A";
+
+/// I064 of the options, number 99,999,999, sent at 09:00:00.00: 2330 at 08:59:59.99 stood at 598.500, with the bits 2 and 0.
+pub const I064: &str =
+    "1B 34 38 09 00 00 00 99 99 99 99 01 00 17 32 33 33 30 20 20 20 20 08 59 59 99 00 59 85 00 05 59 0D 0A";
+
 pub const DAY: &str = "091003554189";
 pub const NINES: &str = "999999999999";

@@ -49,7 +49,19 @@ fn compare(listed: &str, behind: &str, frames: &str) -> (Option<i32>, String) {
 fn the_same() {
     let (status, text) = compare("listing messages refusals gaps board numbers table", "cat", "300");
     assert_eq!(status, Some(0), "{text}");
-    for program in ["listing", "messages", "refusals", "gaps", "gaps give-up", "board", "numbers", "table"] {
+    for program in [
+        "listing",
+        "messages",
+        "refusals",
+        "gaps",
+        "gaps give-up",
+        "board",
+        "listing derivatives-2015",
+        "messages derivatives-2015",
+        "refusals derivatives-2015",
+        "numbers",
+        "table",
+    ] {
         assert!(text.lines().any(|line| line.starts_with(&format!("{program}: ")) && line.ends_with(" all the same")));
     }
 }
@@ -109,4 +121,21 @@ fn a_difference_where_runs_are_given_up() {
     assert_eq!(status, Some(1), "{text}");
     assert!(text.contains("line 1: gaps give-up: row "), "{text}");
     assert!(text.contains("\n  second: {\"refused\":25,"), "{text}");
+}
+
+#[test]
+fn a_difference_on_a_derivatives_line() {
+    for (program, behind, proved, second) in [
+        ("listing", "sed 's/,I060,/,60,/'", ",60,", ",I060,"),
+        ("messages", "sed 's/\"kind\":\"I064\"/\"kind\":64/'", "\"kind\":64,", "\"kind\":\"I064\","),
+        ("refusals", "sed 's/not 12 or 17/neither 12 nor 17/'", "neither 12 nor 17", "not 12 or 17"),
+    ] {
+        let (status, text) = compare(program, behind, "300");
+        assert_eq!(status, Some(1), "{text}");
+        let first = format!("line 1 of the derivatives exchange: {program} derivatives-2015: row ");
+        assert!(text.contains(&first) && text.contains(" second answers ") && text.contains("\nfrom "), "{text}");
+        let row = |name: &str| text.lines().find(|line| line.starts_with(name)).unwrap_or_default().to_string();
+        assert!(row("  proved: ").contains(proved), "{text}");
+        assert!(row("  second: ").contains(second), "{text}");
+    }
 }

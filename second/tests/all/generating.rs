@@ -2,6 +2,7 @@
 
 use std::collections::BTreeSet;
 
+use second::derivatives;
 use second::faults::{names, spoil};
 use second::generate::Generator;
 use second::random::Random;
@@ -78,4 +79,60 @@ fn every_fault_answers_14() {
         seen.insert(name);
     }
     assert!(seen.into_iter().eq(names().into_iter().collect::<BTreeSet<_>>()));
+}
+
+#[test]
+fn the_same_for_the_derivatives_exchange() {
+    let lines = |seed| {
+        let mut generator = derivatives::generate::Generator::new(seed);
+        [generator.line(50), generator.line(1)]
+    };
+    assert_eq!(lines(7), lines(7));
+    assert_ne!(lines(7)[0], lines(8)[0]);
+    let mut generator = derivatives::generate::Generator::new(3);
+    for _ in 0..2000 {
+        let frame = generator.whole();
+        let answer = derivatives::read(&frame);
+        assert_eq!((answer.number(), answer.length()), (0, Some(frame.len())), "{frame:02X?}");
+        // At the stock exchange it would have a length above 3,000.
+        assert_eq!((read(&frame).number(), read(&frame).place()), (3, None));
+    }
+}
+
+#[test]
+fn every_answer_of_the_derivatives_exchange_occurs() {
+    let mut seen = derivatives::seen::Seen::default();
+    assert!(!seen.is_all());
+    let mut generator = derivatives::generate::Generator::new(5);
+    for frames in [20_000, 100, 10, 1] {
+        seen.line(&generator.line(frames)).unwrap();
+    }
+    assert!(seen.is_all(), "{seen}");
+    assert_eq!(seen.answers[0], seen.accepted.iter().sum());
+    for (answer, causes) in [
+        (3, &seen.lengths[..]),
+        (7, &seen.formats[..]),
+        (9, &seen.bodies[..]),
+        (12, &seen.times[..]),
+        (13, &seen.fields[..]),
+    ] {
+        assert_eq!(seen.answers[answer], causes.iter().sum(), "{answer}");
+    }
+}
+
+#[test]
+fn every_fault_of_an_index_value_answers_14() {
+    let (mut generator, mut random) = (derivatives::generate::Generator::new(4), Random::new(4));
+    let mut seen = BTreeSet::new();
+    for _ in 0..5000 {
+        let mut message = *derivatives::read(&generator.whole()).message().expect("a whole frame has a message");
+        let name = derivatives::faults::spoil(&mut message, &mut random);
+        for size in [0, 40] {
+            let mut buffer = vec![0xEE; size];
+            assert_eq!(derivatives::write(&message, &mut buffer), Err(NotWritten::Message), "{name}: {message:?}");
+            assert!(buffer.iter().all(|&byte| byte == 0xEE));
+        }
+        seen.insert(name);
+    }
+    assert!(seen.into_iter().eq(derivatives::faults::names().into_iter().collect::<BTreeSet<_>>()));
 }

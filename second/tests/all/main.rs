@@ -4,6 +4,7 @@ mod board;
 mod build;
 mod capture;
 mod comparing;
+mod derivatives;
 mod digits;
 mod edges;
 mod gaps;
