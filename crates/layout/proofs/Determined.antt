@@ -11,6 +11,9 @@ use Rattle.layout.proofs.put_bytes.Reads as preads
 use Rattle.layout.proofs.places.first_bad as first-bad
 use Rattle.layout.proofs.places.first_bad.Kinds as fown
 use Rattle.layout.proofs.places.first_bad.Reads as freads
+use Rattle.layout.proofs.places.first_bad_from as first-bad-from
+use Rattle.layout.proofs.places.first_bad_from.Kinds as bown
+use Rattle.layout.proofs.places.first_bad_from.Reads as breads
 
 -- the buffer after `put_bytes`
 pub determined-put-bytes : (κs : Lifetimes.Lfts 2) (a : World.ArgsD put.signature κs) (r₁ r₂ : World.ResD put.signature κs)
@@ -23,3 +26,9 @@ pub determined-first-bad : (κs : Lifetimes.Lfts 2) (a : World.ArgsD first-bad.s
     (s₁ s₂ : Clauses.AtExit (kinds.endedOf 2 fown.ps fown.r) κs) → freads.Post κs a r₁ s₁ → freads.Post κs a r₂ s₂
     → r₁ ≡ r₂
 determined-first-bad κs a r₁ r₂ s₁ s₂ p q = p ∙ sym q
+
+-- what `first_bad_from` answers
+pub determined-first-bad-from : (κs : Lifetimes.Lfts 2) (a : World.ArgsD first-bad-from.signature κs) (r₁ r₂ : World.ResD first-bad-from.signature κs)
+    (s₁ s₂ : Clauses.AtExit (kinds.endedOf 2 bown.ps bown.r) κs) → breads.Post κs a r₁ s₁ → breads.Post κs a r₂ s₂
+    → r₁ ≡ r₂
+determined-first-bad-from κs a r₁ r₂ s₁ s₂ p q = p ∙ sym q

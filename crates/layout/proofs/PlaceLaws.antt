@@ -18,7 +18,7 @@ use Rattle.layout.specs.Cells.{Cell, raw, digits, cellSize, cellGood, si
 use Rattle.layout.specs.Places.{cellBad, firstBad, badInCell, badHalf}
 
 -- ---- none is told exactly where the digits are good
-else-none : (x y : Place) → isNone (orElse x y) ≡ (isNone x && isNone y)
+pub else-none : (x y : Place) → isNone (orElse x y) ≡ (isNone x && isNone y)
 else-none None y = refl
 else-none (Half p) y = refl
 
@@ -55,7 +55,7 @@ cell-lowest : (c : Cell) (p : ℕ) (bs : List ℕ) → Lowest (badInCell c bs) p
 cell-lowest raw p bs = λ q. refl
 cell-lowest (digits n) p bs = badField-lowest n p bs
 
-length-take-most : (k : ℕ) (bs : List ℕ) → length (take k bs) ≤ k
+pub length-take-most : (k : ℕ) (bs : List ℕ) → length (take k bs) ≤ k
 length-take-most zero bs = omega arith
 length-take-most (suc k) [] = omega arith
 length-take-most (suc k) (b ∷ bs) = omega (arith, length-take-most k bs)
@@ -152,7 +152,7 @@ firstBad-append (c ∷ cs) ds p bs =
     ∙ ap₂ (λ (x : ℕ) (l : List ℕ). orElse (firstBad cs (p + 2 * k) (drop k bs)) (firstBad ds x l)) e (drop-drop (size cs) k bs))
     ∙ sym (else-assoc (cellBad c p (take k bs)) (firstBad cs (p + 2 * k) (drop k bs)) (firstBad ds (p + 2 * (k + size cs)) (drop (k + size cs) bs)))
 
-else-right : (x : Place) → orElse x None ≡ x
+pub else-right : (x : Place) → orElse x None ≡ x
 else-right None = refl
 else-right (Half p) = refl
 

@@ -6,12 +6,12 @@ use native.Mathlib.Numerals.{add-one}
 use native.Mathlib.Omega.{arith}
 use lib.ListN.{length, getD, take, drop, drop-of-length-le}
 use lib.Seq.{drop-cons, drop-drop}
-use Rattle.digits.specs.Halves.{orElse, badIn}
+use Rattle.digits.specs.Halves.{orElse, badIn, looked, behind}
 use Rattle.digits.specs.declared.halves.Place.{Place}
 use Rattle.digits.specs.declared.halves.Place.the-variants.{None, Half}
 use Rattle.layout.specs.Cells.{Cell, cellSize}
 use Rattle.layout.specs.Places.{cellBad, firstBad, cellOf, cellsOf}
-use Rattle.layout.proofs.PlaceLaws.{firstBad-past}
+use Rattle.layout.proofs.PlaceLaws.{firstBad-past, firstBad-behind, firstBad-inside, length-take-most}
 
 -- the bytes of a packed field
 pub size-some : (n : ℕ) → (n ≡ 0 → ⊥) → n / 2 + n % 2 ≡ cellSize (cellOf n)
@@ -50,3 +50,19 @@ module _ (cells s : List ℕ) (at i : ℕ) (more : i < length cells) (x : Place)
   left-turn e k w =
       ap (λ (m : ℕ). leftBad cells s (at + m) (i + 1)) w
       ∙ sym (begun ∙ ap (λ (y : Place). orElse y (leftBad cells s (at + cellSize (cellOf (getD cells i 0))) (i + 1))) e)
+
+-- what is found in bytes without halves before them, told with those that stand there
+module _ (cs : List Cell) (s : List ℕ) (x : Place) (is : x ≡ firstBad cs 0 (looked s)) where
+  shifted : (before : ℕ) → firstBad cs before (looked s) ≡ behind before x
+  shifted before =
+      let e : before + 0 ≡ before = omega arith in
+      ap (λ (k : ℕ). firstBad cs k (looked s)) (sym e) ∙ firstBad-behind cs before 0 (looked s) ∙ ap (behind before) (sym is)
+
+  pub from-half : (before p : ℕ) → x ≡ Half p → Half (before + p) ≡ firstBad cs before (looked s)
+  from-half before p e = sym (shifted before ∙ ap (behind before) e)
+
+  pub from-none : (before : ℕ) → x ≡ None → None ≡ firstBad cs before (looked s)
+  from-none before e = sym (shifted before ∙ ap (behind before) e)
+
+  pub half-small : (p : ℕ) → x ≡ Half p → p < 2 * 65535
+  half-small p e = omega (arith, firstBad-inside cs 0 (looked s) p (sym is ∙ e), length-take-most 65535 s)

@@ -40,3 +40,16 @@ pub fn first_bad(cells: &[u8], s: &[u8]) -> Place
     }
     Place::None
 }
+
+// The same where some halves stand before the bytes.
+pub fn first_bad_from(cells: &[u8], s: &[u8], before: u16) -> Place
+    ensures { λ r. ⌜ r ≡ firstBad (cellsOf (now (cells .entry))) before (looked (now (s .entry))) ⌝ }
+{
+    match first_bad(cells, s) {
+        Place::Half(p) => {
+            let half = before as u32 + p;
+            Place::Half(half)
+        }
+        Place::None => Place::None,
+    }
+}

@@ -1,17 +1,18 @@
--- Closing a frame: fields written one behind another, and what then stands in the buffer.
-use Prim.Native.Nat.{ℕ, suc, _+_, _-_, _^_, _≤_, _<_}
-use mathlib.Core.Path.{_≡_, refl, sym, ap, ap₂, _∙_}
+-- Closing a frame of the stock exchange: its header's fields written one behind another, and what then stands in the buffer.
+use Prim.Native.Nat.{ℕ, _+_, _-_, _^_, _≤_, _<_}
+use mathlib.Core.Path.{_≡_, refl, sym, ap, _∙_}
 use mathlib.Core.Bool.{true, false}
-use mathlib.Core.List.{List, [], _∷_, _++_, append-assoc}
+use mathlib.Core.List.{List, [], _++_}
 use native.Mathlib.Omega.{arith}
-use lib.ListN.{length, take, drop, set, length-append, length-drop, take-append-drop}
-use lib.Seq.{sets, sets-eq, length-sets, length-take-le, take-at, drop-drop, take-append-add, drop-append-add}
+use lib.ListN.{length, take, drop, set}
+use lib.Seq.{sets}
 use borrow.Author.Tests.{lt-ltb, le-ltb, le-leb, lt-leb}
 use Rattle.digits.specs.Packed.{packed}
 use Rattle.digits.specs.Fields.{putAt}
 use Rattle.layout.proofs.PutLaws.{put-behind}
 use Rattle.layout.specs.Cells.{encode}
 use Rattle.words.specs.Xor.{xorOf}
+use Rattle.frame.proofs.CloseLaws.{covered, length-placed, ended-stores}
 use Rattle.stock_frame.specs.Outline.{headCells}
 use Rattle.stock_frame.specs.Format.{around}
 use Rattle.stock_frame.specs.Writing.{sealed, headValues, closable, closeAnswer, closedOver}
@@ -31,61 +32,6 @@ module _ (n format version seq : ℕ) (s s₁ s₂ s₃ s₄ s₅ : List ℕ) (r
       let p₄ : s₄ ≡ sets s 1 (((packed 2 n ++ packed 1 1) ++ packed 1 format) ++ packed 1 version) =
       w₄ ∙ put-behind version 1 ((packed 2 n ++ packed 1 1) ++ packed 1 format) s s₃ 1 5 p₃ refl (omega arith) (omega arith) (omega arith) in
       w₅ ∙ put-behind seq 4 (((packed 2 n ++ packed 1 1) ++ packed 1 format) ++ packed 1 version) s s₄ 1 6 p₄ refl (omega arith) (omega arith) (omega arith)
-
--- the last three bytes are one run of stores
-end-stores : (t : List ℕ) (n x : ℕ) → 3 ≤ n → set (set (set t (n - 3) x) (n - 2) 13) (n - 1) 10 ≡ sets t (n - 3) (x ∷ 13 ∷ 10 ∷ [])
-end-stores t n x h =
-    let p : n - 2 ≡ suc (n - 3) = omega arith in
-    let q : n - 1 ≡ suc (suc (n - 3)) = omega arith in
-    ap₂ (λ (i j : ℕ). set (set (set t (n - 3) x) i 13) j 10) p q
-
--- ---- a header h of nine bytes behind 27, then the check byte and the end
-module _ (buf h : List ℕ) (n : ℕ) (lh : length h ≡ 9) (low : 14 ≤ n) (fit : n ≤ length buf) where
-  abbrev placed : List ℕ
-  placed = take (n - around) (drop 10 buf)
-
-  headed : sets buf 0 (27 ∷ h) ≡ 27 ∷ (h ++ drop 10 buf)
-  headed =
-      let e : 0 + length (27 ∷ h) ≡ 10 = omega arith in
-      sets-eq (27 ∷ h) buf 0 (omega arith) ∙ ap (λ (k : ℕ). 27 ∷ (h ++ drop k buf)) e
-
-  -- what the check byte covers
-  pub covered : take (n - 3 - 1) (drop 1 (sets buf 0 (27 ∷ h))) ≡ h ++ placed
-  covered =
-      let e : n - 3 - 1 ≡ length h + (n - around) = omega arith in
-      ap₂ (λ (k : ℕ) (l : List ℕ). take k (drop 1 l)) e headed ∙ take-append-add h (drop 10 buf) (n - around)
-
-  length-placed : length placed ≡ n - around
-  length-placed = length-take-le (n - around) (drop 10 buf) (rw length-drop (omega arith))
-
-  front : take (n - 3) (sets buf 0 (27 ∷ h)) ≡ 27 ∷ (h ++ placed)
-  front =
-      let rest = drop (n - around) (drop 10 buf) in
-      let e : 27 ∷ (h ++ drop 10 buf) ≡ (27 ∷ (h ++ placed)) ++ rest =
-      ap (λ (l : List ℕ). 27 ∷ l) (ap (λ (l : List ℕ). h ++ l) (sym (take-append-drop (n - around) (drop 10 buf))) ∙ sym (append-assoc h placed rest)) in
-      ap (take (n - 3)) (headed ∙ e) ∙ take-at (27 ∷ (h ++ placed)) rest (n - 3) (omega (arith, length-append h placed, length-placed))
-
-  far : (k : ℕ) → k ≡ 3 → n - 3 + k ≡ length (27 ∷ h) + (n - 10)
-  far k three = omega arith
-
-  again : 10 + (n - 10) ≡ n
-  again = omega arith
-
-  behind : (k : ℕ) → k ≡ 3 → drop (n - 3 + k) (sets buf 0 (27 ∷ h)) ≡ drop n buf
-  behind k three =
-      ap₂ (λ (i : ℕ) (l : List ℕ). drop i l) (far k three) headed
-      ∙ drop-append-add (27 ∷ h) (drop 10 buf) (n - 10)
-      ∙ drop-drop (n - 10) 10 buf
-      ∙ ap (λ (i : ℕ). drop i buf) again
-
-  -- the last three bytes stored
-  pub ended-stores : (x : ℕ) → x ≡ xorOf (h ++ placed)
-      → set (set (set (sets buf 0 (27 ∷ h)) (n - 3) x) (n - 2) 13) (n - 1) 10 ≡ sealed (h ++ placed) ++ drop n buf
-  ended-stores x e =
-      end-stores (sets buf 0 (27 ∷ h)) n x (omega arith)
-      ∙ sets-eq (x ∷ 13 ∷ 10 ∷ []) (sets buf 0 (27 ∷ h)) (n - 3) (rw length-sets (omega arith))
-      ∙ ap₂ (λ (l m : List ℕ). (l ++ (x ∷ 13 ∷ 10 ∷ [])) ++ m) front (behind (length (x ∷ 13 ∷ 10 ∷ [])) refl)
-      ∙ ap (λ (y : ℕ). (27 ∷ ((h ++ placed) ++ (y ∷ 13 ∷ 10 ∷ []))) ++ drop n buf) e
 
 -- ---- the answers
 module _ (format version seq n : ℕ) (buf : List ℕ) where
@@ -129,11 +75,11 @@ module _ (format version seq n : ℕ) (buf : List ℕ) where
                   × (set (set (set t (n - 3) x) (n - 2) 13) (n - 1) 10 ≡ closedOver format version seq n buf)
               close-done t x so e =
                   let b = take (n - around) (drop 10 buf) in
-                  let l : around + length b ≡ n = omega (arith, length-placed buf head n refl low fit) in
-                  let y : x ≡ xorOf (head ++ b) = e ∙ ap (λ (m : List ℕ). xorOf (take (n - 3 - 1) (drop 1 m))) so ∙ ap xorOf (covered buf head n refl low fit) in
+                  let l : around + length b ≡ n = omega (arith, length-placed buf head 9 n refl (omega arith) fit) in
+                  let y : x ≡ xorOf (head ++ b) = e ∙ ap (λ (m : List ℕ). xorOf (take (n - 3 - 1) (drop 1 m))) so ∙ ap xorOf (covered buf head 9 n refl (omega arith) fit) in
                   rw (closable-all, le-leb n (length buf) fit) (
                     refl,
                     ap (λ (m : List ℕ). set (set (set m (n - 3) x) (n - 2) 13) (n - 1) 10) so
-                        ∙ ended-stores buf head n refl low fit x y
+                        ∙ ended-stores buf head 9 n refl (omega arith) fit x y
                         ∙ ap (λ (k : ℕ). sealed (encode headCells (headValues k format version seq) ++ b) ++ drop n buf) (sym l),
                   )

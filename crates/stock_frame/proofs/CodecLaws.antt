@@ -1,23 +1,25 @@
 -- Both round trips, once for every format: reading a written frame gives the message, writing a read message gives the bytes.
 use Prim.Native.Nat.{ℕ, _+_, _^_, _≤_, _<_}
-use mathlib.Core.Path.{_≡_, sym, ap, _∙_, subst}
-use mathlib.Core.Bool.{true}
+use mathlib.Core.Path.{_≡_, refl, sym, ap, _∙_}
+use mathlib.Core.Bool.{Bool, true}
 use mathlib.Core.List.{List, [], _∷_, _++_}
 use native.Mathlib.Omega.{arith}
-use lib.ListN.{length, drop, length-drop}
-use lib.Dec.{ltb}
-use borrow.Author.Tests.{ltb-true, lt-ltb}
+use lib.ListN.{length, getD}
+use lib.Dec.{eqb, ltb, lit<}
+use borrow.Author.Tests.{ltb-true, lt-ltb, le-leb, eq-eqb, eqb-true}
+use Rattle.digits.specs.Tests.{allOf}
+use Rattle.digits.proofs.Bools.{and-right, no-false}
 use Rattle.digits.proofs.TestLaws.{holds, all, _also_, together}
-use Rattle.layout.specs.Cells.{Cell, size, fits, encode}
-use Rattle.stock_frame.specs.Outline.{own, body, business, format, version, sequence, kindValues, kindCells}
-use Rattle.stock_frame.specs.Format.{valuesOf, ranged, around}
-use Rattle.stock_frame.specs.Writing.{frameAround, frameBytes}
+use Rattle.layout.specs.Cells.{size, fits, encode}
+use Rattle.frame.specs.Codec as common
+use Rattle.frame.proofs.CodecLaws as laws
+use Rattle.stock_frame.specs.Outline.{header, own, body, business, format, version, sequence, kindValues, kindCells}
+use Rattle.stock_frame.specs.Format.{Format, valuesOf, ranged, around}
 use Rattle.stock_frame.specs.Codec.{Codec, legalTests, legal, frameOf}
 pub use Rattle.stock_frame.specs.Reads.{Reads}
 use Rattle.stock_frame.specs.Reads.{Bodied}
-use Rattle.layout.proofs.CellLaws.{length-encode, fits-decode}
-use Rattle.stock_frame.proofs.OutlineLaws.{length-frame, body-frame, kind-frame, own-frame, outlined-frame, own-frameAround, length-own, least-length}
-use Rattle.stock_frame.proofs.FormatLaws.{range-bounds, values-encode, bodied-encode, encode-values, fits-values, size-body}
+use Rattle.stock_frame.proofs.OutlineLaws.{header-law}
+use Rattle.stock_frame.proofs.FormatLaws.{range-bounds}
 
 -- what a format has to show: a message that has its shape and the numbers that it stands for tell each other
 pub record Lawful {M : Type 0} (C : Codec M) (Shaped : M → Type 0) : Type 0 where
@@ -56,103 +58,174 @@ module _ {M : Type 0} (C : Codec M) (m : M) (l : legal C m ≡ true) where
   pub legal-tidy : C .tidy m ≡ true
   legal-tidy = holds (legalTests C m) l 6
 
--- ---- reading a written frame gives the message, whatever follows the frame
+-- ---- a format's messages as those of a kind of the common frame
+-- what the rules ask beside good digits: of the header's numbers, of the body's length, and of its numbers
+abbrev pub commonRules : Format → List ℕ → ℕ → List ℕ → List Bool
+commonRules F ks n vs =
+    eqb (getD ks 0 0) 1
+    ∷ eqb (getD ks 1 0) (F .number)
+    ∷ eqb (getD ks 2 0) (F .version)
+    ∷ ranged F n
+    ∷ F .levels vs
+    ∷ F .timed vs
+    ∷ F .ruled vs
+    ∷ []
+
+abbrev pub asCommon : {M : Type 0} → Codec M → common.Codec header M
+asCommon C = record {
+  told = C .form .cells;
+  rules = λ none ks n vs. allOf (commonRules (C .form) ks n vs);
+  before = λ m. [];
+  behind = λ m. 1 ∷ C .form .number ∷ C .form .version ∷ C .seq m ∷ [];
+  cells = C .cells;
+  values = C .values;
+  tidy = C .tidy;
+  message = λ none ks vs. C .message (getD ks 3 0) vs;
+}
+
+-- no cells hold no numbers, and the header's four hold four
+none-fit : (vs : List ℕ) → fits [] vs ≡ true → [] ≡ vs
+none-fit [] h = refl
+none-fit (v ∷ vs) h = absurd (no-false h)
+
+four-fit : (ks : List ℕ) → fits kindCells ks ≡ true → getD ks 0 0 ∷ getD ks 1 0 ∷ getD ks 2 0 ∷ getD ks 3 0 ∷ [] ≡ ks
+four-fit (a ∷ b ∷ c ∷ d ∷ []) h = refl
+four-fit [] h = absurd (no-false h)
+four-fit (a ∷ []) h = absurd (no-false (and-right (ltb a 100) _ h))
+four-fit (a ∷ b ∷ []) h = absurd (no-false (and-right (ltb b 100) _ (and-right (ltb a 100) _ h)))
+four-fit (a ∷ b ∷ c ∷ []) h = absurd (no-false (and-right (ltb c 100) _ (and-right (ltb b 100) _ (and-right (ltb a 100) _ h))))
+four-fit (a ∷ b ∷ c ∷ d ∷ e ∷ ks) h =
+    absurd (no-false (and-right (ltb d (10 ^ 8)) _ (and-right (ltb c 100) _ (and-right (ltb b 100) _ (and-right (ltb a 100) _ h)))))
+
+-- a body that the common rules allow is one that its format allows
+module _ {M : Type 0} (C : Codec M) (vs ks b : List ℕ) (a : common.Allowed (asCommon C) vs ks b) where
+  abbrev tests : List Bool
+  tests = commonRules (C .form) ks (length b) (valuesOf (C .form) b)
+
+  allowed-bodied : Bodied (C .form) b
+  allowed-bodied = record {
+    within-range = holds tests (a .ruled) 3;
+    levelled = holds tests (a .ruled) 4;
+    sized = a .sized;
+    good-digits = a .good-digits;
+    good-times = holds tests (a .ruled) 5;
+    good-fields = holds tests (a .ruled) 6;
+  }
+
 module _ {M : Type 0} (C : Codec M) (Shaped : M → Type 0) (law : Lawful C Shaped) where
-  module _ (m : M) (s : Shaped m) (l : legal C m ≡ true) where
-    in-range : (C .form .least ≤ around + size (C .cells m)) × (around + size (C .cells m) ≤ C .form .most)
-    in-range = range-bounds (C .form) (size (C .cells m)) (legal-range C m l)
+  -- ---- a message is legal by the common tests exactly where it is by the stock exchange's
+  legal-common : (m : M) → legal C m ≡ true → common.legal (asCommon C) m ≡ true
+  legal-common m l =
+      let range = range-bounds (C .form) (size (C .cells m)) (legal-range C m l) in
+      together (common.legalTests (asCommon C) m)
+      (refl
+      also together _ (lt-ltb 1 100 (lit< tt) also lt-ltb (C .form .number) 100 (law .number-fits) also lt-ltb (C .form .version) 100 (law .version-fits) also lt-ltb (C .seq m) (10 ^ 8) (legal-seq C m l) also refl also all)
+      also le-leb 14 (around + size (C .cells m)) (omega (arith, law .low, range .0))
+      also le-leb (around + size (C .cells m)) 1024 (omega (arith, law .high, range .1))
+      also legal-fits C m l
+      also together (commonRules (C .form) (1 ∷ C .form .number ∷ C .form .version ∷ C .seq m ∷ []) (size (C .cells m)) (C .values m))
+      (refl also eq-eqb (C .form .number) (C .form .number) refl also eq-eqb (C .form .version) (C .form .version) refl
+      also legal-range C m l also legal-levels C m l also legal-timed C m l also legal-ruled C m l also all)
+      also legal-tidy C m l
+      also all)
 
-    pub length-frameOf : length (frameOf C m) ≡ around + size (C .cells m)
-    length-frameOf =
-        length-frame (C .form .number) (C .form .version) (C .seq m) (encode (C .cells m) (C .values m)) (law .number-fits) (law .version-fits) (legal-seq C m l)
-        ∙ ap (λ (n : ℕ). around + n) (length-encode (C .cells m) (C .values m) (legal-fits C m l))
+  common-legal : (m : M) → common.legal (asCommon C) m ≡ true → legal C m ≡ true
+  common-legal m l =
+      let ks : List ℕ = 1 ∷ C .form .number ∷ C .form .version ∷ C .seq m ∷ [] in
+      let rules = laws.legal-rules (asCommon C) m l in
+      let tests = commonRules (C .form) ks (size (C .cells m)) (C .values m) in
+      let four = ltb 1 100 ∷ ltb (C .form .number) 100 ∷ ltb (C .form .version) 100 ∷ ltb (C .seq m) (10 ^ 8) ∷ true ∷ [] in
+      together (legalTests C m)
+      (holds four (laws.legal-rear (asCommon C) m l) 3
+      also holds tests rules 3
+      also holds tests rules 4
+      also laws.legal-fits (asCommon C) m l
+      also holds tests rules 5
+      also holds tests rules 6
+      also laws.legal-tidy (asCommon C) m l
+      also all)
 
-    module _ (r : List ℕ) where
-      low-body : 1 ≤ length (encode (C .cells m) (C .values m))
-      low-body = omega (arith, law .low, in-range .0, length-encode (C .cells m) (C .values m) (legal-fits C m l))
+  -- ---- what the common round trips ask
+  common-lawful : common.Lawful (asCommon C) Shaped
+  common-lawful = record {
+    header-law = header-law;
+    cells-told = λ m s l. law .cells-told m s (laws.legal-fits (asCommon C) m l);
+    message-values = λ m s l. law .message-values m s (common-legal m l);
+    before-message = λ vs ks b a. none-fit vs (a .front-fits);
+    behind-message = λ vs ks b a.
+        let t = commonRules (C .form) ks (length b) (valuesOf (C .form) b) in
+        (λ i.
+        sym (eqb-true (getD ks 0 0) 1 (holds t (a .ruled) 0)) i
+        ∷ sym (eqb-true (getD ks 1 0) (C .form .number) (holds t (a .ruled) 1)) i
+        ∷ sym (eqb-true (getD ks 2 0) (C .form .version) (holds t (a .ruled) 2)) i
+        ∷ law .seq-message (getD ks 3 0) (valuesOf (C .form) b) i
+        ∷ [])
+        ∙ four-fit ks (a .rear-fits);
+    cells-message = λ vs ks b a. law .cells-message (getD ks 3 0) b (allowed-bodied C vs ks b a);
+    values-message = λ vs ks b a. law .values-message (getD ks 3 0) b (allowed-bodied C vs ks b a);
+    tidy-message = λ vs ks b a. law .tidy-message (getD ks 3 0) b (allowed-bodied C vs ks b a);
+    shaped-message = λ vs ks b a. law .shaped-message (getD ks 3 0) b (allowed-bodied C vs ks b a);
+  }
 
-      high-body : around + length (encode (C .cells m) (C .values m)) ≤ 1024
-      high-body = omega (arith, law .high, in-range .1, length-encode (C .cells m) (C .values m) (legal-fits C m l))
+  -- ---- a frame that the rules allow, in both words
+  reads-common : (t : List ℕ) (m : M) → Reads C t m → common.Reads (asCommon C) t m
+  reads-common t m rd = record {
+    outlined = rd .outlined;
+    sized = rd .bodied .sized;
+    good-digits = rd .bodied .good-digits;
+    ruled =
+        together (commonRules (C .form) (kindValues (own t)) (length (body (own t))) (valuesOf (C .form) (body (own t))))
+        (eq-eqb (business (own t)) 1 (rd .is-business)
+        also eq-eqb (format (own t)) (C .form .number) (rd .is-format)
+        also eq-eqb (version (own t)) (C .form .version) (rd .is-version)
+        also rd .bodied .within-range
+        also rd .bodied .levelled
+        also rd .bodied .good-times
+        also rd .bodied .good-fields
+        also all);
+    meant = rd .meant;
+  }
 
-      pub own-frameOf : own (frameOf C m ++ r) ≡ frameOf C m
-      own-frameOf =
-          own-frame (C .form .number) (C .form .version) (C .seq m) (encode (C .cells m) (C .values m)) (law .number-fits) (law .version-fits) (legal-seq C m l)
-          low-body high-body r
-
-      kinds-read : kindValues (own (frameOf C m ++ r)) ≡ 1 ∷ C .form .number ∷ C .form .version ∷ C .seq m ∷ []
-      kinds-read =
-          ap kindValues own-frameOf
-          ∙ kind-frame (C .form .number) (C .form .version) (C .seq m) (encode (C .cells m) (C .values m)) (law .number-fits) (law .version-fits) (legal-seq C m l)
-
-      body-read : body (own (frameOf C m ++ r)) ≡ encode (C .cells m) (C .values m)
-      body-read =
-          ap body own-frameOf
-          ∙ body-frame (C .form .number) (C .form .version) (C .seq m) (encode (C .cells m) (C .values m)) (law .number-fits) (law .version-fits) (legal-seq C m l)
-
-      pub read-written : Reads C (frameOf C m ++ r) m
-      read-written = record {
-        outlined =
-            outlined-frame (C .form .number) (C .form .version) (C .seq m) (encode (C .cells m) (C .values m)) (law .number-fits) (law .version-fits) (legal-seq C m l)
-            low-body high-body r;
-        is-business = ap (λ (k : List ℕ). lib.ListN.getD k 0 0) kinds-read;
-        is-format = ap (λ (k : List ℕ). lib.ListN.getD k 1 0) kinds-read;
-        is-version = ap (λ (k : List ℕ). lib.ListN.getD k 2 0) kinds-read;
-        bodied =
-            subst (Bodied (C .form)) (sym body-read)
-            (bodied-encode (C .form) (C .cells m) (C .values m) (legal-fits C m l) (law .cells-told m s (legal-fits C m l))
-            (legal-range C m l) (legal-levels C m l) (legal-timed C m l) (legal-ruled C m l));
-        meant =
-            sym (ap (λ (k : List ℕ). C .message (lib.ListN.getD k 3 0) (valuesOf (C .form) (body (own (frameOf C m ++ r))))) kinds-read
-            ∙ ap (λ (b : List ℕ). C .message (C .seq m) (valuesOf (C .form) b)) body-read
-            ∙ ap (C .message (C .seq m)) (values-encode (C .form) (C .cells m) (C .values m) (legal-fits C m l) (law .cells-told m s (legal-fits C m l)))
-            ∙ law .message-values m s l);
+  common-reads : (t : List ℕ) (m : M) → common.Reads (asCommon C) t m → Reads C t m
+  common-reads t m rd =
+      let tests = commonRules (C .form) (kindValues (own t)) (length (body (own t))) (valuesOf (C .form) (body (own t))) in
+      record {
+        outlined = rd .outlined;
+        is-business = eqb-true (business (own t)) 1 (holds tests (rd .ruled) 0);
+        is-format = eqb-true (format (own t)) (C .form .number) (holds tests (rd .ruled) 1);
+        is-version = eqb-true (version (own t)) (C .form .version) (holds tests (rd .ruled) 2);
+        bodied = record {
+          within-range = holds tests (rd .ruled) 3;
+          levelled = holds tests (rd .ruled) 4;
+          sized = rd .sized;
+          good-digits = rd .good-digits;
+          good-times = holds tests (rd .ruled) 5;
+          good-fields = holds tests (rd .ruled) 6;
+        };
+        meant = rd .meant;
       }
+
+  -- ---- reading a written frame gives the message, whatever follows the frame
+  module _ (m : M) (s : Shaped m) (l : legal C m ≡ true) where
+    pub length-frameOf : length (frameOf C m) ≡ around + size (C .cells m)
+    length-frameOf = laws.length-frameOf (asCommon C) Shaped common-lawful m s (legal-common m l)
+
+    pub own-frameOf : (r : List ℕ) → own (frameOf C m ++ r) ≡ frameOf C m
+    own-frameOf = laws.own-frameOf (asCommon C) Shaped common-lawful m s (legal-common m l)
+
+    pub read-written : (r : List ℕ) → Reads C (frameOf C m ++ r) m
+    read-written r = common-reads (frameOf C m ++ r) m (laws.read-written (asCommon C) Shaped common-lawful m s (legal-common m l) r)
 
   -- ---- writing a read message gives the bytes
   module _ (t : List ℕ) (m : M) (rd : Reads C t m) where
-    abbrev n : ℕ
-    n = sequence (own t)
-
-    abbrev b : List ℕ
-    b = body (own t)
-
-    same-cells : C .cells m ≡ C .form .cells b
-    same-cells = ap (C .cells) (rd .meant) ∙ law .cells-message n b (rd .bodied)
-
-    same-values : C .values m ≡ valuesOf (C .form) b
-    same-values = ap (C .values) (rd .meant) ∙ law .values-message n b (rd .bodied)
-
-    pub seq-read : C .seq m ≡ n
-    seq-read = ap (C .seq) (rd .meant) ∙ law .seq-message n (valuesOf (C .form) b)
-
-    seq-lt : n < 10 ^ 8
-    seq-lt =
-        let f : fits kindCells (kindValues (own t)) ≡ true =
-        fits-decode kindCells (drop 3 (own t)) (rw length-drop (omega (arith, length-own t (rd .outlined), least-length t (rd .outlined))))
-        (rd .outlined .packed-head) in
-        ltb-true n (10 ^ 8) (holds (ltb (business (own t)) 100 ∷ ltb (format (own t)) 100 ∷ ltb (version (own t)) 100 ∷ ltb n (10 ^ 8) ∷ true ∷ []) f 3)
+    pub seq-read : C .seq m ≡ sequence (own t)
+    seq-read = ap (C .seq) (rd .meant) ∙ law .seq-message (sequence (own t)) (valuesOf (C .form) (body (own t)))
 
     pub shaped-read : Shaped m
-    shaped-read = subst Shaped (sym (rd .meant)) (law .shaped-message n b (rd .bodied))
+    shaped-read = laws.shaped-read (asCommon C) Shaped common-lawful t m (reads-common t m rd)
 
     pub legal-read : legal C m ≡ true
-    legal-read =
-        together (legalTests C m)
-        ((ap (λ (x : ℕ). ltb x (10 ^ 8)) seq-read ∙ lt-ltb n (10 ^ 8) seq-lt)
-        also (ap (λ (x : List Cell). ranged (C .form) (size x)) same-cells ∙ ap (ranged (C .form)) (size-body (C .form) b (rd .bodied)) ∙ rd .bodied .within-range)
-        also (ap (C .form .levels) same-values ∙ rd .bodied .levelled)
-        also (ap (λ (x : List Cell). fits x (C .values m)) same-cells ∙ ap (fits (C .form .cells b)) same-values ∙ fits-values (C .form) b (rd .bodied))
-        also (ap (C .form .timed) same-values ∙ rd .bodied .good-times)
-        also (ap (C .form .ruled) same-values ∙ rd .bodied .good-fields)
-        also (ap (C .tidy) (rd .meant) ∙ law .tidy-message n b (rd .bodied))
-        also all)
+    legal-read = common-legal m (laws.legal-read (asCommon C) Shaped common-lawful t m (reads-common t m rd))
 
     pub written-read : frameOf C m ≡ own t
-    written-read =
-        ap (λ (x : List Cell). frameBytes (C .form) (C .seq m) x (C .values m)) same-cells
-        ∙ ap (λ (x : List ℕ). frameBytes (C .form) (C .seq m) (C .form .cells b) x) same-values
-        ∙ ap (λ (x : ℕ). frameBytes (C .form) x (C .form .cells b) (valuesOf (C .form) b)) seq-read
-        ∙ ap (frameAround (C .form .number) (C .form .version) n) (encode-values (C .form) b (rd .bodied))
-        ∙ ap (λ (x : ℕ). frameAround x (C .form .version) n b) (sym (rd .is-format))
-        ∙ ap (λ (x : ℕ). frameAround (format (own t)) x n b) (sym (rd .is-version))
-        ∙ sym (own-frameAround t (rd .outlined) (rd .is-business))
+    written-read = laws.written-read (asCommon C) Shaped common-lawful t m (reads-common t m rd)

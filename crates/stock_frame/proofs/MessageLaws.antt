@@ -1,23 +1,23 @@
 -- A message's frame written: its body put cell by cell, then closed. Over any format's messages.
 use Prim.Native.Nat.{ℕ, _+_, _-_, _^_, _≤_, _<_}
-use mathlib.Core.Path.{_≡_, refl, sym, ap, ap₂, _∙_}
-use mathlib.Core.Bool.{Bool, true, false, cond}
+use mathlib.Core.Path.{_≡_, ap, ap₂, _∙_}
+use mathlib.Core.Bool.{Bool, true, cond}
 use mathlib.Core.List.{List, _++_}
 use native.Mathlib.Omega.{arith}
 use lib.ListN.{length, take, drop}
 use lib.Seq.{sets, length-sets}
 use lib.Dec.{leb}
-use borrow.Author.Tests.{lt-ltb, le-leb, lt-leb}
+use borrow.Author.Tests.{lt-ltb, le-leb}
 use Rattle.digits.proofs.Bools.{and-both}
 use Rattle.digits.proofs.TestLaws.{all, _also_, together}
 use Rattle.digits.proofs.FieldLaws.{taken-sets}
 use Rattle.layout.specs.Cells.{size, encode}
-use Rattle.answers.specs.Answers.{writtenNumber}
+pub use Rattle.frame.proofs.WriteLaws.{write-illegal, write-short, write-whole, written-number}
 use Rattle.stock_frame.specs.Format.{around}
 use Rattle.stock_frame.specs.Writing.{frameAround, writeAnswer, writtenOver, closable, closeAnswer, closedOver}
 use Rattle.stock_frame.specs.Codec.{Codec, legal, frameOf}
 use Rattle.answers.specs.declared.Written.{Written}
-use Rattle.answers.specs.declared.Written.the-variants.{Done, Illegal, NoRoom}
+use Rattle.answers.specs.declared.Written.the-variants.{Done, NoRoom}
 use Rattle.layout.proofs.CellLaws.{length-encode}
 use Rattle.layout.proofs.PutLaws.{drop-sets}
 use Rattle.stock_frame.proofs.FormatLaws.{range-bounds}
@@ -44,29 +44,6 @@ module _ (format version seq n : ℕ) (buf t b : List ℕ) (c : closable format 
   close-leaves =
       ap (λ (x : Bool). cond x (frameAround format version seq (take (n - around) (drop 10 t)) ++ drop n t) t) (and-both c same-room)
       ∙ ap₂ (λ (x y : List ℕ). frameAround format version seq x ++ y) body-put rest-kept
-
--- ---- what writing a frame of n bytes answers and leaves
-module _ (ok : Bool) (f buf : List ℕ) where
-  pub write-illegal : ok ≡ false → (Illegal ≡ writeAnswer ok f buf) × (buf ≡ writtenOver ok f buf)
-  write-illegal e = rw e (refl, refl)
-
-  module _ (e : ok ≡ true) (n : ℕ) (long : length f ≡ n) where
-    pub write-short : length buf < n → (NoRoom ≡ writeAnswer ok f buf) × (buf ≡ writtenOver ok f buf)
-    write-short h = rw (e, lt-leb (length f) (length buf) (omega arith)) (refl, refl)
-
-    pub write-whole : n ≤ length buf → (Done n ≡ writeAnswer ok f buf) × (f ++ drop n buf ≡ writtenOver ok f buf)
-    write-whole h =
-        let w : leb (length f) (length buf) ≡ true = le-leb (length f) (length buf) (omega arith) in
-        rw (e, w) (ap Done (sym long), ap (λ (k : ℕ). f ++ drop k buf) (sym long))
-
--- the number of a writing's answer: 14 before 15
-pub written-number : (ok : Bool) (f buf : List ℕ) → writtenNumber (writeAnswer ok f buf) ≡ cond ok (cond (leb (length f) (length buf)) 0 15) 14
-written-number false f buf = refl
-written-number true f buf = go (leb (length f) (length buf))
-  where
-    go : (t : Bool) → writtenNumber (cond t (Done (length f)) NoRoom) ≡ cond t 0 15
-    go true = refl
-    go false = refl
 
 -- ---- a message of any format
 module _ {M : Type 0} (C : Codec M) (Shaped : M → Type 0) (law : Lawful C Shaped) (m : M) (s : Shaped m) (l : legal C m ≡ true) where

@@ -16,12 +16,14 @@ use Rattle.digits.proofs.TestLaws.{holds}
 use Rattle.digits.proofs.PackedLaws.{two-lt}
 use Rattle.layout.specs.Cells.{goodCells, decode}
 use Rattle.layout.specs.Places.{firstBad}
-use Rattle.layout.specs.Checks.{Check, must, firstFail}
+use Rattle.layout.specs.Checks.{firstFail}
 use Rattle.digits.specs.declared.halves.Place.{Place}
 use Rattle.digits.specs.declared.halves.Place.the-variants.{None}
 use Rattle.answers.specs.Answers.{named}
 use Rattle.words.specs.Xor.{xorOf}
-use Rattle.stock_frame.specs.Outline.{lengthBytes, lengthCells, lengthOf, own, inner, kindCells, checkByte, ended, lengthRight, outlineChecks, headOf, outlinePlace, outlineOf}
+use Rattle.frame.specs.Header.{lastChecks}
+use Rattle.frame.proofs.OutlineSteps as common
+use Rattle.stock_frame.specs.Outline.{header, lengthBytes, lengthCells, lengthOf, own, inner, kindCells, checkByte, ended, lengthRight, outlineChecks, headOf, outlinePlace, outlineOf}
 use Rattle.answers.specs.declared.Answer.the-variants.{NoFrame, Refused}
 use Rattle.stock_frame.specs.declared.head.Outline.{Outline}
 use Rattle.stock_frame.specs.declared.head.Outline.the-variants.{Whole, Not}
@@ -37,43 +39,43 @@ module _ (t : List ℕ) where
   answered k e = ap (λ (n : ℕ). cond (eqb n 0) (Whole (headOf (own t))) (Not (named n (record { format = 0; seq = 0; length = lengthOf t }) (outlinePlace n t)))) (sym e)
 
   pub check-none : length t < 1 → Not (NoFrame 2 None) ≡ outlineOf t
-  check-none h = answered 2 (rw (lt-leb 1 (length t) h))
+  check-none h = answered 2 (common.fails-empty header t h)
 
   module _ (some : 1 ≤ length t) where
     pub check-first : (getD t 0 0 ≡ 27 → ⊥) → Not (NoFrame 1 None) ≡ outlineOf t
-    check-first h = answered 1 (rw (le-leb 1 (length t) some, ne-eqb (getD t 0 0) 27 h))
+    check-first h = answered 1 (common.fails-first header t some h)
 
     module _ (starts : getD t 0 0 ≡ 27) where
       pub check-three : length t < 3 → Not (NoFrame 2 None) ≡ outlineOf t
-      check-three h = answered 2 (rw (le-leb 1 (length t) some, eq-eqb (getD t 0 0) 27 starts, lt-leb 3 (length t) h))
+      check-three h = answered 2 (common.fails-header header t some starts h)
 
       module _ (three : 3 ≤ length t) where
-        passed : firstFail (outlineChecks t) ≡ firstFail (drop 3 (outlineChecks t))
-        passed = rw (le-leb 1 (length t) some, eq-eqb (getD t 0 0) 27 starts, le-leb 3 (length t) three)
-
         pub check-length : lengthRight t ≡ false → Not (NoFrame 3 (firstBad lengthCells 2 (lengthBytes t))) ≡ outlineOf t
-        check-length h = answered 3 (passed ∙ rw h)
+        check-length h = answered 3 (common.fails-length header t some starts three h)
 
         module _ (right : lengthRight t ≡ true) where
           pub check-whole : length t < lengthOf t → Not (NoFrame 2 None) ≡ outlineOf t
-          check-whole h = answered 2 (passed ∙ rw (right, lt-leb (lengthOf t) (length t) h))
+          check-whole h = answered 2 (common.fails-whole header t some starts three right h)
 
           module _ (whole : lengthOf t ≤ length t) where
+            left-checks : firstFail (outlineChecks t) ≡ firstFail (lastChecks header (own t))
+            left-checks = common.passed-whole header t some starts three right whole
+
             pub check-end : ended (own t) ≡ false → Not (NoFrame 4 None) ≡ outlineOf t
-            check-end h = answered 4 (passed ∙ rw (right, le-leb (lengthOf t) (length t) whole, h))
+            check-end h = answered 4 (left-checks ∙ rw h)
 
             module _ (ends : ended (own t) ≡ true) where
               pub check-byte : (checkByte (own t) ≡ xorOf (inner (own t)) → ⊥) → Not (NoFrame 5 None) ≡ outlineOf t
-              check-byte h = answered 5 (passed ∙ rw (right, le-leb (lengthOf t) (length t) whole, ends, ne-eqb (checkByte (own t)) (xorOf (inner (own t))) h))
+              check-byte h = answered 5 (left-checks ∙ rw (ends, ne-eqb (checkByte (own t)) (xorOf (inner (own t))) h))
 
               module _ (checked : checkByte (own t) ≡ xorOf (inner (own t))) where
                 pub check-head : goodCells kindCells (drop 3 (own t)) ≡ false → Not (Refused 6 (lengthOf t) (firstBad kindCells 6 (drop 3 (own t)))) ≡ outlineOf t
                 check-head h =
-                    answered 6 (passed ∙ rw (right, le-leb (lengthOf t) (length t) whole, ends, eq-eqb (checkByte (own t)) (xorOf (inner (own t))) checked, h))
+                    answered 6 (left-checks ∙ rw (ends, eq-eqb (checkByte (own t)) (xorOf (inner (own t))) checked, h))
 
                 pub check-all : goodCells kindCells (drop 3 (own t)) ≡ true → Whole (headOf (own t)) ≡ outlineOf t
                 check-all h =
-                    answered 0 (passed ∙ rw (right, le-leb (lengthOf t) (length t) whole, ends, eq-eqb (checkByte (own t)) (xorOf (inner (own t))) checked, h))
+                    answered 0 (left-checks ∙ rw (ends, eq-eqb (checkByte (own t)) (xorOf (inner (own t))) checked, h))
 
 -- ---- the header's digits: x is the length's last byte, g what follows it
 module _ (x : ℕ) (g : List ℕ) (long : 7 ≤ length g) where
@@ -141,16 +143,12 @@ module _ (t : List ℕ) (three : 3 ≤ length t) where
 
 -- ---- the outline is that of the frame's own bytes
 
--- the checks on these
-abbrev lastChecks : List ℕ → List Check
-lastChecks f = must 4 (ended f) ∷ must 5 (eqb (checkByte f) (xorOf (inner f))) ∷ must 6 (goodCells kindCells (drop 3 f)) ∷ []
-
 module _ (t : List ℕ) (starts : getD t 0 0 ≡ 27) (three : 3 ≤ length t) (right : lengthRight t ≡ true) (whole : lengthOf t ≤ length t) where
   least : 14 ≤ lengthOf t
   least = right-length t right .0
 
   own-bytes : lengthBytes (own t) ≡ lengthBytes t
-  own-bytes = length-bytes-taken (lengthOf t) t (omega (arith, least)) three
+  own-bytes = length-bytes-taken (lengthOf t) t (omega (arith, least))
 
   pub own-length : lengthOf (own t) ≡ lengthOf t
   own-length = ap value own-bytes
@@ -166,9 +164,6 @@ module _ (t : List ℕ) (starts : getD t 0 0 ≡ 27) (three : 3 ≤ length t) (r
 
   pub own-own : own (own t) ≡ own t
   own-own = ap (λ (k : ℕ). take k (own t)) own-length ∙ take-take (lengthOf t) (lengthOf t) t (omega arith)
-
-  left-checks : firstFail (outlineChecks t) ≡ firstFail (lastChecks (own t))
-  left-checks = passed t (omega arith) starts three ∙ rw (right, le-leb (lengthOf t) (length t) whole)
 
 -- the outline of a number: the frame's own bytes, those of its length, and the length
 abbrev placed : ℕ → List ℕ → List ℕ → ℕ → Outline
@@ -186,9 +181,9 @@ outline-own t starts three right whole =
     let told = own-length t starts three right whole in
     let same = own-own t starts three right whole in
     let checks : firstFail (outlineChecks f) ≡ firstFail (outlineChecks t) =
-    left-checks f (own-starts t starts three right whole) (omega (arith, count, least t starts three right whole)) (own-right t starts three right whole) (omega arith)
-    ∙ ap (λ (m : List ℕ). firstFail (lastChecks m)) same
-    ∙ sym (left-checks t starts three right whole) in
+    common.passed-whole header f (omega (arith, count, least t starts three right whole)) (own-starts t starts three right whole) (omega (arith, count, least t starts three right whole)) (own-right t starts three right whole) (omega arith)
+    ∙ ap (λ (m : List ℕ). firstFail (lastChecks header m)) same
+    ∙ sym (common.passed-whole header t (omega arith) starts three right whole) in
     let bytes = own-bytes t starts three right whole in
     ap₂ (λ (n l : ℕ). cond (eqb n 0) (Whole (headOf (own f))) (Not (named n (record { format = 0; seq = 0; length = l }) (outlinePlace n f)))) checks told
     ∙ ap₂ (λ (m bs : List ℕ). placed (firstFail (outlineChecks t)) m bs (lengthOf t)) same bytes

@@ -13,13 +13,14 @@ use Rattle.layout.specs.Checks.{firstFail}
 use Rattle.layout.specs.Places.{firstBad}
 use Rattle.digits.specs.declared.halves.Place.the-variants.{None}
 use Rattle.answers.specs.Answers.{named}
-use Rattle.stock_frame.specs.Outline.{lengthBytes, lengthOf, own, body, lengthCells, lengthRight, outlineChecks, headOf, outlinePlace, outlineOf}
+use Rattle.frame.proofs.OutlineSteps as common
+use Rattle.stock_frame.specs.Outline.{header, lengthBytes, lengthOf, own, body, lengthCells, lengthRight, outlineChecks, headOf, outlinePlace, outlineOf}
 use Rattle.stock_frame.specs.Reads.{Outlined}
 use Rattle.stock_frame.specs.declared.head.Head.{Head}
 use Rattle.answers.specs.declared.Answer.{Answer}
 use Rattle.answers.specs.declared.Answer.the-variants.{NoFrame}
 use Rattle.stock_frame.specs.declared.head.Outline.the-variants.{Whole, Not}
-use Rattle.stock_frame.proofs.OutlineLaws.{passes-outlined, length-own, least-length}
+use Rattle.stock_frame.proofs.OutlineLaws.{header-law, passes-outlined}
 use Rattle.stock_frame.proofs.OutlineSteps.{answered, check-none, check-first, check-three, check-length, check-whole, outline-own}
 
 -- ---- what the answer tells
@@ -45,42 +46,27 @@ module _ (t : List ℕ) where
       go true z q = let x : _≡_ {A = ℕ} 0 1 = cc in absurd (omega arith)
       go false z q = (eqb-false (firstFail (outlineChecks t)) 0 z, cc)
 
--- ---- parts of the first m bytes
-pub part-taken : (k n m : ℕ) (l : List ℕ) → n + k ≤ m → take k (drop n (take m l)) ≡ take k (drop n l)
-part-taken k zero m l h = take-take k m l (omega arith)
-part-taken k (suc n) zero l h = absurd (omega arith)
-part-taken k (suc n) (suc m) [] h = refl
-part-taken k (suc n) (suc m) (x ∷ l) h = part-taken k n m l (omega arith)
-
 -- the body of the frame at a place, as the part `&line[s..e]`
 pub body-part : (line : List ℕ) (at s e : ℕ) → Outlined (drop at line) → s ≡ at + 10 → e + 3 ≡ at + lengthOf (drop at line)
     → take (e - s) (drop s line) ≡ body (own (drop at line))
-body-part line at s e o p q =
-    let t = drop at line in
-    let n : length (own t) ≡ lengthOf t = length-own t o in
-    let k : e - s ≡ length (own t) - 13 = omega arith in
-    ap₂ (λ (i : ℕ) (j : ℕ). take i (drop j line)) k p
-    ∙ ap (take (length (own t) - 13)) (sym (drop-drop 10 at line))
-    ∙ sym (part-taken (length (own t) - 13) 10 (lengthOf t) t (omega (arith, least-length t o)))
+body-part = common.body-part header header-law
 
 -- ---- bytes behind: an answer other than 2 stays
 module _ (t u : List ℕ) where
   longer : length t ≤ length (t ++ u)
-  longer = omega (arith, length-append t u)
+  longer = common.longer header t u
 
   more-first : 1 ≤ length t → getD (t ++ u) 0 0 ≡ getD t 0 0
-  more-first h = List·getD-append t u 0 0 h
+  more-first = common.more-first header t u
 
   more-bytes : 3 ≤ length t → lengthBytes (t ++ u) ≡ lengthBytes t
-  more-bytes h =
-      ap (take 2) (drop-append-le 1 t u (omega arith))
-      ∙ take-append-le 2 (drop 1 t) u (omega (arith, lib.ListN.length-drop 1 t))
+  more-bytes = common.more-bytes header t u
 
   more-right : 3 ≤ length t → lengthRight (t ++ u) ≡ lengthRight t
-  more-right h = ap (λ (bs : List ℕ). goodField 4 bs && (leb 14 (value bs) && leb (value bs) 1024)) (more-bytes h)
+  more-right = common.more-right header t u
 
   more-length : 3 ≤ length t → lengthOf (t ++ u) ≡ lengthOf t
-  more-length h = ap value (more-bytes h)
+  more-length = common.more-length header t u
 
   module _ (settled : outlineOf t ≡ Not (NoFrame 2 None) → ⊥) where
     pub outline-more : outlineOf (t ++ u) ≡ outlineOf t
@@ -91,7 +77,7 @@ module _ (t u : List ℕ) where
             let w : lengthOf t ≤ length t = leb-true (lengthOf t) (length t) e in
             let m : lengthOf (t ++ u) ≤ length (t ++ u) = omega (arith, longer, more-length three) in
             sym (outline-own (t ++ u) (more-first (omega arith) ∙ s) (omega (arith, longer)) (more-right three ∙ r) m)
-            ∙ ap outlineOf (ap (λ (k : ℕ). take k (t ++ u)) (more-length three) ∙ take-append-le (lengthOf t) t u w)
+            ∙ ap outlineOf (common.more-own header t u three w)
             ∙ outline-own t s three r w
         whole three s r false e = absurd (settled (sym (check-whole t (omega arith) s three r (leb-false (lengthOf t) (length t) e))))
 

@@ -3,24 +3,17 @@ use Prim.Native.Nat.{ℕ}
 use mathlib.Core.Path.{_≡_}
 use mathlib.Core.Bool.{true}
 use mathlib.Core.List.{List}
-use lib.ListN.{length, getD, drop}
-use lib.Dec.{eqb, leb}
-use Rattle.words.specs.Xor.{xorOf}
+use lib.ListN.{length}
+use lib.Dec.{eqb}
+use Rattle.frame.specs.Header as common
 use Rattle.layout.specs.Cells.{size, goodCells}
-use Rattle.stock_frame.specs.Outline.{lengthOf, own, inner, body, business, format, version, sequence, kindCells, checkByte, ended, lengthRight}
+use Rattle.stock_frame.specs.Outline.{header, own, body, business, format, version, sequence}
 use Rattle.stock_frame.specs.Format.{Format, valuesOf, ranged}
 use Rattle.stock_frame.specs.Codec.{Codec}
 
 -- the bytes t begin with a frame whose outline is whole
-pub record Outlined (t : List ℕ) : Type 0 where
-  pub some : leb 1 (length t) ≡ true
-  pub starts : eqb (getD t 0 0) 27 ≡ true
-  pub headed : leb 3 (length t) ≡ true
-  pub lengthed : lengthRight t ≡ true
-  pub whole : leb (lengthOf t) (length t) ≡ true
-  pub ends : ended (own t) ≡ true
-  pub checked : eqb (checkByte (own t)) (xorOf (inner (own t))) ≡ true
-  pub packed-head : goodCells kindCells (drop 3 (own t)) ≡ true
+abbrev pub Outlined : List ℕ → Type 0
+Outlined t = common.Outlined header t
 
 -- the body b is one that its format allows
 pub record Bodied (F : Format) (b : List ℕ) : Type 0 where

@@ -5,15 +5,12 @@ use mathlib.Core.List.{List, [], _∷_, _++_}
 use lib.ListN.{length, take, drop}
 use lib.Dec.{leb, ltb}
 use Rattle.layout.specs.Cells.{Cell, encode}
-use Rattle.words.specs.Xor.{xorOf}
-use Rattle.stock_frame.specs.Outline.{headCells}
+use Rattle.frame.specs.Writing as common
+pub use Rattle.frame.specs.Writing.{sealed, writeAnswer, writtenOver}
+use Rattle.stock_frame.specs.Outline.{header}
 use Rattle.stock_frame.specs.Format.{Format, around}
 use Rattle.answers.specs.declared.Written.{Written}
 use Rattle.answers.specs.declared.Written.the-variants.{Done, Illegal, NoRoom}
-
--- the bytes around what the check byte covers
-abbrev pub sealed : List ℕ → List ℕ
-sealed i = 27 ∷ i ++ (xorOf i ∷ 13 ∷ 10 ∷ [])
 
 -- the header's numbers
 abbrev pub headValues : ℕ → ℕ → ℕ → ℕ → List ℕ
@@ -21,18 +18,11 @@ headValues len format version seq = len ∷ 1 ∷ format ∷ version ∷ seq ∷
 
 -- a frame around a body
 abbrev pub frameAround : ℕ → ℕ → ℕ → List ℕ → List ℕ
-frameAround format version seq b = sealed (encode headCells (headValues (around + length b) format version seq) ++ b)
+frameAround format version seq b = common.frameAround header [] (1 ∷ format ∷ version ∷ seq ∷ []) b
 
 -- a frame of a format with a layout and its numbers
 abbrev pub frameBytes : Format → ℕ → List Cell → List ℕ → List ℕ
 frameBytes F seq cs vs = frameAround (F .number) (F .version) seq (encode cs vs)
-
--- what writing a frame into a buffer answers, and the buffer afterwards: 14 before 15, and a refusal leaves it
-abbrev pub writeAnswer : Bool → List ℕ → List ℕ → Written
-writeAnswer legal f buf = cond legal (cond (leb (length f) (length buf)) (Done (length f)) NoRoom) Illegal
-
-abbrev pub writtenOver : Bool → List ℕ → List ℕ → List ℕ
-writtenOver legal f buf = cond (legal && leb (length f) (length buf)) (f ++ drop (length f) buf) buf
 
 -- a frame of n bytes can stand at the start of a buffer: its header's numbers fit their cells, and n is a length
 abbrev pub closable : ℕ → ℕ → ℕ → ℕ → Bool

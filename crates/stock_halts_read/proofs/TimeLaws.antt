@@ -16,7 +16,7 @@ use Rattle.digits.proofs.Places.{inside, take-first}
 use Rattle.digits.proofs.PackedLaws.{good-halves, two-lt, value-lt, value-parts, valueFrom-append, valueFrom-shift}
 use Rattle.digits.proofs.Values.{good-split}
 use Rattle.codes_times.specs.Times.{timeOfDay}
-use Rattle.stock_frame.proofs.PartLaws.{part-taken}
+use Rattle.frame.proofs.HeaderLaws.{part-taken}
 
 -- good digits of n bytes
 below : (n : ℕ) (bs : List ℕ) → length bs ≡ n → good bs ≡ true → value bs < 100 ^ n
