@@ -4,15 +4,12 @@ ghost use mathlib.Core.Path.{_≡_};
 ghost use lib.ListN.{drop};
 ghost use Rattle.stock_reading.specs.Reading.{answerOf};
 ghost use Rattle.c_outcomes.specs.Outcomes.{readOutcome};
+ghost use Rattle.c_outcomes.specs.Walking.{moveOutcome, tallyFrom, tallyNumbers};
 ghost use Rattle.walk.specs.Tally.{talliedOf};
 ghost use Rattle.stock_lines.specs.Lines.{answers, moveAt};
-ghost use Rattle.c_walking.specs.Walking.{moveOutcome, tallyFrom, tallyNumbers};
-use answers::Answer;
 use c_outcomes::of_answer;
-use c_outcomes::of_move;
-use digits::halves::Place;
+use c_outcomes::of_step;
 use stock_lines::figures::walked;
-use stock_lines::moves::Step;
 use stock_lines::moves::move_at;
 use stock_reading::reading::read;
 use walk::tally::Tally;
@@ -25,25 +22,12 @@ pub extern "C" fn trivsome_read(line: &[u8], at: usize) -> u64
     of_answer(read(line, at))
 }
 
-// Of a move: the bytes that it goes past in the length's place, 0 where the walk stops.
-fn move_outcome(step: Step) -> u64
-    ensures { λ r. ⌜ r ≡ moveOutcome step ⌝ }
-{
-    match step {
-        Step::Moved(row) => {
-            let answer = row.answer;
-            of_move(answer, row.bytes)
-        }
-        Step::Stopped => of_answer(Answer::NoFrame(2, Place::None)),
-    }
-}
-
 // The move at a place of a line; the next one is at the place behind its bytes.
 #[no_mangle]
 pub extern "C" fn trivsome_move(line: &[u8], at: usize, closed: bool) -> u64
     ensures { λ r. ⌜ r ≡ moveOutcome (moveAt closed at (now (line .entry))) ⌝ }
 {
-    move_outcome(move_at(line, at, closed))
+    of_step(move_at(line, at, closed))
 }
 
 // The tally of accepted, refused, skipped and waiting bytes, moved on by this walk.

@@ -2,7 +2,7 @@
 use Prim.Native.Nat.{ℕ, _+_, _-_, _≤_}
 use mathlib.Core.Path.{_≡_, refl, sym, ap, _∙_}
 use mathlib.Core.Bool.{Bool, true, cond, _||_}
-use mathlib.Core.List.{List, _++_}
+use mathlib.Core.List.{List, _∷_, _++_}
 use native.Mathlib.Omega.{arith}
 use lib.Dec.{eqb, leb}
 use borrow.Author.Tests.{ne-eqb, lt-leb}
@@ -16,11 +16,13 @@ use Rattle.stock_quotes.specs.Quotes.{sixCodec, noQuote}
 use Rattle.stock_prices.specs.Prices.{twelveCodec, noPrices}
 use Rattle.stock_halts.specs.Halts.{nineteenCodec, noHalt}
 use Rattle.stock_reading.specs.Reading.{answerOf}
+use Rattle.stock_frame.proofs.OutlineSteps.{check-first}
 use Rattle.stock_reading.proofs.EdgesHold.{edges-hold}
 use Rattle.stock_reading.proofs.MoreBytes.{answer-more, message-more}
 use Rattle.stock_reading.proofs.Lengths.{whole-within, waits-short}
+use Rattle.stock_reading.proofs.ReadingLaws.{answer-not}
 use Rattle.walk.specs.Walk.{isWhole}
-use Rattle.walk.specs.Sound.{Sound}
+use Rattle.walk.specs.Sound.{Sound, LineReading}
 use Rattle.stock_lines.specs.Lines.{answers, longest, messageIn, quote, prices, halt, notice, sayings}
 
 -- 0 and 6 to 13 are none of 1 to 5
@@ -36,6 +38,14 @@ sound-answers = record {
   settled = λ t u h. answer-more t u (λ q. h (ap answerNumber q));
   short = waits-short;
 }
+
+-- where no 27 stands the reading answers 1
+pub quiet : (b : ℕ) (bs : List ℕ) → (b ≡ 27 → ⊥) → answerOf (b ∷ bs) ≡ NoFrame 1 None
+quiet b bs h = sym (answer-not (b ∷ bs) (NoFrame 1 None) (sym (check-first (b ∷ bs) (omega arith) h)))
+
+-- what the laws of a line's turns are taken at
+abbrev pub stock-line : LineReading
+stock-line = record { says = answerOf; longest = longest; sound = sound-answers; quiet = quiet }
 
 -- ---- with messages
 -- bytes that follow take no message back

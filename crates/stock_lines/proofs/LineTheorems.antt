@@ -1,12 +1,10 @@
 -- What the laws of a walk say of the stock exchange's line.
 use Prim.Native.Nat.{ℕ, _+_, _≤_, _<_}
-use mathlib.Core.Path.{_≡_, refl, sym}
-use mathlib.Core.Bool.{Bool, true, false, cond}
+use mathlib.Core.Path.{_≡_, refl}
+use mathlib.Core.Bool.{Bool, true, false}
 use mathlib.Core.Logic.{_↔_}
 use mathlib.Core.List.{List, [], _∷_, _++_, map, flatten}
 use lib.ListN.{length, drop}
-use borrow.Author.Tests.{eqb-true}
-use Rattle.digits.proofs.Bools.{and-left}
 use Rattle.answers.specs.Answers.{answerNumber, answerValues}
 use Rattle.walk.specs.Walk.{Move, taken, stops, walk, walkFrom, restOf}
 use Rattle.walk.specs.Tally.{largest, tallyOf}
@@ -21,9 +19,9 @@ use Rattle.walk.proofs.FigureLaws.{figures-add-up, Each, walk-says}
 use Rattle.walk.proofs.RowLaws.{pieces-are-rows}
 use Rattle.walk.proofs.MapLaws.{walk-map}
 use Rattle.walk.proofs.ListedLaws.{calls-are-rows}
+use Rattle.walk.proofs.StepLaws as steps
 use Rattle.stock_reading.specs.Reading.{answerOf}
 use Rattle.stock_lines.specs.Lines.{answers, longest, Saying, sayings, moveAt, stepNumber, stepValues, nextRows}
-use Rattle.stock_lines.specs.declared.moves.Step.the-variants.{Moved, Stopped}
 use Rattle.stock_lines.proofs.LineLaws.{sound-answers, sound-sayings}
 
 -- the four figures of a walk over a line add up to its length
@@ -36,17 +34,11 @@ line-says = walk-says sayings longest sound-sayings
 
 -- a step has the answer number that the reading gives at its place, and a move its values
 pub step-number : (closed : Bool) (at : ℕ) (line : List ℕ) → stepNumber (moveAt closed at line) ≡ answerNumber (answerOf (drop at line))
-step-number closed at line = go (stops answers closed (drop at line)) refl
-  where
-    go : (b : Bool) → stops answers closed (drop at line) ≡ b
-        → stepNumber (cond b Stopped (Moved (record { at = at; bytes = taken answers (answerOf (drop at line)); answer = answerOf (drop at line) })))
-        ≡ answerNumber (answerOf (drop at line))
-    go true e = sym (eqb-true (answerNumber (answerOf (drop at line))) 2 (and-left _ _ e))
-    go false e = refl
+step-number = steps.step-number answerOf
 
 pub step-values : (closed : Bool) (at : ℕ) (line : List ℕ) → stops answers closed (drop at line) ≡ false
     → stepValues (moveAt closed at line) ≡ at ∷ taken answers (answerOf (drop at line)) ∷ answerValues (answerOf (drop at line))
-step-values closed at line e = rw e
+step-values = steps.step-values answerOf
 
 -- 16 exactly: the next rows answer it where a move up to the next row cannot be held by the place or the kept bytes
 pub line-sixteen-exactly : (closed : Bool) (kept : Kept) (at : ℕ) (line : List ℕ)

@@ -4,9 +4,8 @@ use mathlib.Core.Bool.{Bool, cond}
 use mathlib.Core.List.{List, [], _∷_}
 use lib.ListN.{drop}
 use lib.Dec.{eqb}
-use Rattle.answers.specs.Answers.{answerNumber, answerValues, answerLength}
+use Rattle.answers.specs.Answers.{answerNumber, answerLength}
 use Rattle.answers.specs.declared.Answer.{Answer}
-use Rattle.digits.specs.declared.halves.Place.the-variants.{None}
 use Rattle.answers.specs.declared.Answer.the-variants.{Accepted, NoFrame, Refused}
 use Rattle.stock_notices.specs.Notices.{fiveCodec, noNotice}
 use Rattle.stock_notices.specs.declared.Notice.{Notice}
@@ -20,17 +19,16 @@ use Rattle.stock_frame.specs.Outline.{outlineOf}
 use Rattle.stock_frame.specs.declared.head.Outline.{Outline}
 use Rattle.stock_frame.specs.declared.head.Outline.the-variants.{Whole, Not}
 use Rattle.stock_reading.specs.Reading.{answerOf, messageBy}
-use Rattle.walk.specs.Walk.{Reading, Move, taken, stops, walkFrom}
-use Rattle.walk.specs.Answers.{answering, pastOf}
-use Rattle.walk.specs.Noise.{noiseLength}
-use Rattle.walk.specs.Told.{nextOf}
+use Rattle.walk.specs.Walk.{Reading, Move, walkFrom}
+use Rattle.walk.specs.Answers.{answering}
+use Rattle.walk.specs.Lines as lines
+pub use Rattle.walk.specs.Lines.{stepNumber, stepValues}
 use Rattle.walk.specs.declared.rows.Kept.{Kept}
 use Rattle.walk.specs.declared.rows.Next.{Next}
+use Rattle.walk.specs.declared.moves.Step.{Step}
+use Rattle.walk.specs.declared.stretch.Stretch.{Stretch}
 use Rattle.stock_lines.specs.declared.frames.Ahead.{Ahead}
 use Rattle.stock_lines.specs.declared.frames.Ahead.the-variants.{Frame, Nothing}
-use Rattle.stock_lines.specs.declared.moves.Step.{Step}
-use Rattle.stock_lines.specs.declared.pieces.Stretch.{Stretch}
-use Rattle.stock_lines.specs.declared.moves.Step.the-variants.{Moved, Stopped}
 
 -- the reading of the frames, by their answers
 abbrev pub answers : Reading Answer
@@ -70,31 +68,17 @@ sayings = record {
   size = λ s. answerLength (s .answer);
 }
 
--- the move at a place of a line, or that the walk stops there
+-- the move at a place of a line, or that the walk stops there; its number and its values are `stepNumber` and `stepValues`
 abbrev pub moveAt : Bool → ℕ → List ℕ → Step
-moveAt closed at line =
-    let t = drop at line in
-    cond (stops answers closed t) Stopped (Moved (record { at = at; bytes = taken answers (answerOf t); answer = answerOf t }))
-
--- the answer number of a step: what the reading says there; a walk stops at a 2, which no bytes answer too
-abbrev pub stepNumber : Step → ℕ
-stepNumber (Moved r) = answerNumber (r .answer)
-stepNumber Stopped = 2
-
--- and the values beside it: the place and the bytes of a move, and the answer's own
-abbrev pub stepValues : Step → List ℕ
-stepValues (Moved r) = r .at ∷ r .bytes ∷ answerValues (r .answer)
-stepValues Stopped = []
+moveAt closed at line = lines.moveAt answerOf closed at line
 
 -- what a walk meets from a place on: the bytes before the next 27 at once, answered 1; at a 27 what the reading answers
 abbrev pub stretchOf : Bool → List ℕ → Stretch
-stretchOf closed t =
-    let n = noiseLength t in
-    cond (eqb n 0) (record { answer = answerOf t; bytes = pastOf closed (answerOf t) }) (record { answer = NoFrame 1 None; bytes = n })
+stretchOf closed t = lines.stretchOf answerOf closed t
 
 -- the next rows of a line from a place on, with what is kept from the pieces before
 abbrev pub nextRows : Bool → Kept → ℕ → List ℕ → Next
-nextRows closed kept at line = nextOf (walkFrom answers closed (kept .at) (drop at line)) kept at
+nextRows closed kept at line = lines.nextRows answerOf closed kept at line
 
 -- a frame whose outline is whole, or what is met further on
 abbrev pub onOutline : Outline → ℕ → Ahead → Ahead

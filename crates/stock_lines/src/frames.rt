@@ -4,11 +4,11 @@ ghost use mathlib.Core.Path.{_≡_};
 ghost use lib.ListN.{drop};
 ghost use Rattle.stock_lines.specs.Lines.{nextFrame};
 ghost use Rattle.stock_lines.specs.Steps.{metOf};
-use crate::pieces::noise;
 use stock_frame::head::Head;
 use stock_frame::head::Outline;
 use stock_frame::outline::outline;
 use walk::past::past;
+use walk::stretch::noise;
 
 pub enum Ahead {
     // the header of the next frame, and its place on the line

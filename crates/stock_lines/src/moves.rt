@@ -2,15 +2,9 @@
 ghost use mathlib.Core.Path.{_≡_};
 ghost use Rattle.stock_lines.specs.Lines.{moveAt};
 use stock_reading::reading::read;
+use walk::moves::Step;
 use walk::past::past;
 use walk::rows::Row;
-
-pub enum Step {
-    // a move: its place, its bytes and what the reading said; the message of an accepted frame is at its place
-    Moved(Row),
-    // the walk ends here, or waits
-    Stopped,
-}
 
 // The move at a place of a line. The next one is at the place behind its bytes.
 pub fn move_at(line: &[u8], at: usize, closed: bool) -> Step

@@ -1,7 +1,6 @@
 // The rows of a line that comes in pieces.
 ghost use mathlib.Core.Path.{_≡_};
 ghost use lib.ListN.{drop};
-ghost use Rattle.walk.specs.Noise.{noiseLength};
 ghost use Rattle.stock_lines.specs.Lines.{stretchOf, nextRows};
 use answers::Answer;
 use digits::halves::Place;
@@ -10,26 +9,8 @@ use walk::past::past;
 use walk::rows::Kept;
 use walk::rows::Next;
 use walk::rows::Told;
-
-// What a walk meets at a place: an answer, and the bytes that it moves past, 0 where the walk stops.
-pub struct Stretch {
-    pub answer: Answer,
-    pub bytes: usize,
-}
-
-// How many bytes stand before the next 27, or the end.
-pub(crate) fn noise(line: &[u8], at: usize) -> usize
-    ensures { λ r. ⌜ r ≡ noiseLength (drop at (now (line .entry))) ⌝ }
-{
-    let mut i = at;
-    while i < line.len() {
-        if line[i] == 27 {
-            return i - at;
-        }
-        i += 1;
-    }
-    i - at
-}
+use walk::stretch::Stretch;
+use walk::stretch::noise;
 
 // Bytes before the next 27 are all skipped for the same reason, and are met at once.
 pub fn stretch_at(line: &[u8], at: usize, closed: bool) -> Stretch

@@ -13,6 +13,9 @@ use Rattle.walk.proofs.rows.Kept.fresh.Reads as kept-fresh-reads
 use Rattle.walk.proofs.rows.Kept.told as kept-told
 use Rattle.walk.proofs.rows.Kept.told.Kinds as kept-told-kinds
 use Rattle.walk.proofs.rows.Kept.told.Reads as kept-told-reads
+use Rattle.walk.proofs.stretch.noise as noise
+use Rattle.walk.proofs.stretch.noise.Kinds as noise-kinds
+use Rattle.walk.proofs.stretch.noise.Reads as noise-reads
 use Rattle.walk.proofs.tally.Tally.empty as tally-empty
 use Rattle.walk.proofs.tally.Tally.empty.Kinds as tally-empty-kinds
 use Rattle.walk.proofs.tally.Tally.empty.Reads as tally-empty-reads
@@ -43,6 +46,12 @@ pub determined-Kept-told : (κs : Lifetimes.Lfts 0) (a : World.ArgsD kept-told.s
     (s₁ s₂ : Clauses.AtExit (kinds.endedOf 0 kept-told-kinds.ps kept-told-kinds.r) κs) → kept-told-reads.Post κs a r₁ s₁ → kept-told-reads.Post κs a r₂ s₂
     → r₁ ≡ r₂
 determined-Kept-told κs a r₁ r₂ s₁ s₂ p q = p ∙ sym q
+
+-- what `noise` answers
+pub determined-noise : (κs : Lifetimes.Lfts 1) (a : World.ArgsD noise.signature κs) (r₁ r₂ : World.ResD noise.signature κs)
+    (s₁ s₂ : Clauses.AtExit (kinds.endedOf 1 noise-kinds.ps noise-kinds.r) κs) → noise-reads.Post κs a r₁ s₁ → noise-reads.Post κs a r₂ s₂
+    → r₁ ≡ r₂
+determined-noise κs a r₁ r₂ s₁ s₂ p q = p ∙ sym q
 
 -- what `Tally::empty` gives
 pub determined-Tally-empty : (κs : Lifetimes.Lfts 0) (a : World.ArgsD tally-empty.signature κs) (r₁ r₂ : World.ResD tally-empty.signature κs)

@@ -13,4 +13,7 @@ pub mod ToldLaws
 pub mod NextLaws
 pub mod NoiseLaws
 pub mod ListedLaws
+pub mod StepLaws
+pub mod TurnLaws
+pub mod PromiseLaws
 pub mod Determined

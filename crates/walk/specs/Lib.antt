@@ -8,3 +8,5 @@ pub mod Pieces
 pub mod Told
 pub mod Listed
 pub mod Noise
+pub mod Lines
+pub mod Promises

@@ -3,12 +3,13 @@ use Prim.Native.Nat.{_-_}
 use native.Mathlib.Omega.{arith}
 use borrow.Author.Needs.{needs}
 use lib.ListN.{length}
-use Rattle.stock_lines.proofs.TurnLaws.{Turn, Counted, stays-within, counted-begins, counted-ends, counted-stops, counted-moves}
+use Rattle.walk.proofs.TurnLaws.{Turn, Counted, stays-within, counted-begins, counted-ends, counted-stops, counted-moves}
+use Rattle.stock_lines.proofs.LineLaws.{stock-line}
 use Rattle.stock_lines.proofs.figures.figures.Statement.{statement}
 use Rattle.stock_lines.proofs.figures.figures.Tie as tie
 
 abbrev Inv-loop : tie.InvT-loop
-Inv-loop line closed t₀ at₀ t at = Counted closed line t at
+Inv-loop line closed t₀ at₀ t at = Counted stock-line closed line t at
 
 abbrev μ-loop : tie.MeasureT-loop
 μ-loop line closed t₀ at₀ t at = length line - at
@@ -17,7 +18,7 @@ empty-requires : tie.Need-empty-requires Inv-loop μ-loop
 empty-requires c κs = tt
 
 loop-holds : tie.Need-loop-holds Inv-loop μ-loop
-loop-holds c = let a = c .before .before .args in counted-begins (a .closed) (a .line .now) (c .empty .result) (c .empty .ensures)
+loop-holds c = let a = c .before .before .args in counted-begins stock-line (a .closed) (a .line .now) (c .empty .result) (c .empty .ensures)
 
 read-requires : tie.Need-read-requires Inv-loop μ-loop
 read-requires c κs = tt
@@ -29,7 +30,7 @@ past-requires c κs = tt
 turn : (c : tie.After-past Inv-loop μ-loop)
     → let l = c .before .before in
     let a = l .before .before .before .before .args in
-    Turn (a .closed) (a .line .now) (l .before .loop .at) (c .before .read .result) (c .past .result)
+    Turn stock-line (a .closed) (a .line .now) (l .before .loop .at) (c .before .read .result) (c .past .result)
 turn c = record { left-over = c .before .before .loop-test .taken; says = c .before .read .ensures; moves = c .past .ensures }
 
 sub-t : tie.Need-sub-t Inv-loop μ-loop
@@ -58,7 +59,7 @@ returns-2 : tie.Need-returns-2 Inv-loop μ-loop
 returns-2 c =
     let a = c .before .before .before .before .args in
     let l = c .before .loop in
-    counted-ends (a .closed) (a .line .now) (l .t) (l .at) (l .inv) (c .loop-test .left)
+    counted-ends stock-line (a .closed) (a .line .now) (l .t) (l .at) (l .inv) (c .loop-test .left)
 
 pub figures-spec : {M : Type 1} → statement M
 figures-spec =

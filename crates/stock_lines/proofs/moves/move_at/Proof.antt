@@ -1,10 +1,11 @@
 -- `moves::move_at` meets its contract.
-use Rattle.stock_lines.proofs.TurnLaws.{Turn, ends, stops-here, moves-here}
+use Rattle.walk.proofs.TurnLaws.{Turn, ends, stops-here, moves-here}
+use Rattle.stock_lines.proofs.LineLaws.{stock-line}
 use Rattle.stock_lines.proofs.moves.move_at.Statement.{statement}
 use Rattle.stock_lines.proofs.moves.move_at.Tie as tie
 
 returns : tie.Need-returns
-returns c = let a = c .before .before .args in ends (a .closed) (a .line .now) (a .at) (c .if1 .taken)
+returns c = let a = c .before .before .args in ends stock-line (a .closed) (a .line .now) (a .at) (c .if1 .taken)
 
 read-requires : tie.Need-read-requires
 read-requires c κs = tt
@@ -15,7 +16,7 @@ past-requires c κs = tt
 -- the answer at the place, and its move
 turn : (c : tie.After-past)
     → let a = c .before .before .before .before .args in
-    Turn (a .closed) (a .line .now) (a .at) (c .before .read .result) (c .past .result)
+    Turn stock-line (a .closed) (a .line .now) (a .at) (c .before .read .result) (c .past .result)
 turn c = record { left-over = c .before .before .if1 .left; says = c .before .read .ensures; moves = c .past .ensures }
 
 returns-2 : tie.Need-returns-2

@@ -4,12 +4,13 @@ use mathlib.Core.Path.{_≡_, refl, _∙_}
 use native.Mathlib.Omega.{arith}
 use borrow.Author.Needs.{needs}
 use lib.ListN.{length}
-use Rattle.stock_lines.proofs.TurnLaws.{Met, toGive, met-within, met-stops, gives-no-more, goes-on, gives-one, gives-two, gives-full}
+use Rattle.walk.proofs.TurnLaws.{Met, toGive, met-within, met-stops, gives-no-more, goes-on, gives-one, gives-two, gives-full}
+use Rattle.stock_lines.proofs.LineLaws.{stock-line}
 use Rattle.stock_lines.proofs.pieces.next_rows.Statement.{statement}
 use Rattle.stock_lines.proofs.pieces.next_rows.Tie as tie
 
 abbrev Inv-loop : tie.InvT-loop
-Inv-loop line at closed kept₀ at₀ kept at' = toGive closed line kept at' ≡ toGive closed line kept₀ at₀
+Inv-loop line at closed kept₀ at₀ kept at' = toGive stock-line closed line kept at' ≡ toGive stock-line closed line kept₀ at₀
 
 abbrev μ-loop : tie.MeasureT-loop
 μ-loop line at closed kept₀ at₀ kept at' = length line - at'
@@ -24,7 +25,7 @@ stretch-at-requires c κs = tt
 met : (c : tie.After-stretch-at Inv-loop μ-loop)
     → let l = c .before in
     let a = l .before .before .before .args in
-    Met (a .closed) (a .line .now) (l .before .loop .at) (c .stretch-at .result)
+    Met stock-line (a .closed) (a .line .now) (l .before .loop .at) (c .stretch-at .result)
 met c = record { left-over = c .before .loop-test .taken; is = c .stretch-at .ensures }
 
 returns : tie.Need-returns Inv-loop μ-loop
@@ -84,7 +85,7 @@ returns-4 c =
 returns-5 : tie.Need-returns-5 Inv-loop μ-loop
 returns-5 c =
     let a = c .before .before .before .args in
-    gives-no-more (a .closed) (a .line .now) (c .before .loop .kept) (c .before .loop .at) (c .loop-test .left) ∙ c .before .loop .inv
+    gives-no-more stock-line (a .closed) (a .line .now) (c .before .loop .kept) (c .before .loop .at) (c .loop-test .left) ∙ c .before .loop .inv
 
 pub next-rows-spec : {M : Type 1} → statement M
 next-rows-spec =

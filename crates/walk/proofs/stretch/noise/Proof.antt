@@ -1,13 +1,13 @@
--- `pieces::noise` meets its contract: what was passed and the noise ahead are the noise from the place on.
+-- `stretch::noise` meets its contract: what was passed and the noise ahead are the noise from the place on.
 use Prim.Native.Nat.{_+_, _-_, _≤_}
 use mathlib.Core.Path.{_≡_}
 use native.Mathlib.Omega.{arith}
 use borrow.Author.Needs.{needs}
 use lib.ListN.{length, drop}
 use Rattle.walk.specs.Noise.{noiseLength}
 use Rattle.walk.proofs.NoiseLaws.{noise-ends, noise-stops, noise-goes-on}
-use Rattle.stock_lines.proofs.pieces.noise.Statement.{statement}
-use Rattle.stock_lines.proofs.pieces.noise.Tie as tie
+use Rattle.walk.proofs.stretch.noise.Statement.{statement}
+use Rattle.walk.proofs.stretch.noise.Tie as tie
 
 abbrev Inv-loop : tie.InvT-loop
 Inv-loop line at i₀ i = (at ≤ i) × (noiseLength (drop at line) ≡ (i - at) + noiseLength (drop i line))
