@@ -1,3 +1,4 @@
 -- The laws that the proofs cite, and the theorems that belong to no one function.
 pub mod RuleLaws
+pub mod RoomLaws
 pub mod Determined

@@ -5,3 +5,4 @@ pub mod CodecLaws
 pub mod CloseLaws
 pub mod WriteLaws
 pub mod OutlineSteps
+pub mod LineSteps

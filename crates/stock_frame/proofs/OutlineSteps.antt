@@ -23,11 +23,12 @@ use Rattle.answers.specs.Answers.{named}
 use Rattle.words.specs.Xor.{xorOf}
 use Rattle.frame.specs.Header.{lastChecks}
 use Rattle.frame.proofs.OutlineSteps as common
+use Rattle.frame.proofs.LineSteps as line
 use Rattle.stock_frame.specs.Outline.{header, lengthBytes, lengthCells, lengthOf, own, inner, kindCells, checkByte, ended, lengthRight, outlineChecks, headOf, outlinePlace, outlineOf}
 use Rattle.answers.specs.declared.Answer.the-variants.{NoFrame, Refused}
 use Rattle.stock_frame.specs.declared.head.Outline.{Outline}
 use Rattle.stock_frame.specs.declared.head.Outline.the-variants.{Whole, Not}
-use Rattle.stock_frame.proofs.OutlineLaws.{length-bytes-taken, right-length}
+use Rattle.stock_frame.proofs.OutlineLaws.{header-law, length-bytes-taken, right-length}
 use Rattle.layout.proofs.WholeLaws.{good-wholes}
 use Rattle.stock_frame.proofs.LengthSteps.{lengthIn}
 
@@ -128,18 +129,10 @@ module _ (t : List ℕ) (three : 3 ≤ length t) where
     by-test = is ∙ ap₂ (λ (r : Bool) (k : ℕ). cond r k 0) (sym same-right) (sym same-length)
 
     pub length-none : n ≡ 0 → lengthRight t ≡ false
-    length-none z = go (lengthRight t) refl by-test
-      where
-        go : (r : Bool) → lengthRight t ≡ r → n ≡ cond r (lengthOf t) 0 → r ≡ false
-        go false e q = refl
-        go true e q = absurd (omega (arith, right-length t e .0))
+    length-none = line.length-none header header-law t n by-test
 
     pub length-some : (n ≡ 0 → ⊥) → (lengthRight t ≡ true) × (n ≡ lengthOf t)
-    length-some some = go (lengthRight t) by-test
-      where
-        go : (r : Bool) → n ≡ cond r (lengthOf t) 0 → (r ≡ true) × (n ≡ lengthOf t)
-        go true q = (refl, q)
-        go false q = absurd (some q)
+    length-some = line.length-some header header-law t n by-test
 
 -- ---- the outline is that of the frame's own bytes
 

@@ -7,35 +7,20 @@ use native.Mathlib.Omega.{arith}
 use lib.ListN.{length, getD, take, drop, length-drop}
 use lib.Seq.{getD-drop, take-all}
 use borrow.Author.Tests.{lt-ltb, le-ltb, le-leb, lt-leb}
-use Rattle.digits.specs.Halves.{looked, behind}
+use Rattle.digits.specs.Halves.{looked}
 use Rattle.digits.specs.declared.halves.Place.{Place}
 use Rattle.digits.specs.declared.halves.Place.the-variants.{None, Half}
 use Rattle.layout.specs.Cells.{Cell}
 use Rattle.layout.specs.Places.{firstBad}
-use Rattle.layout.proofs.PlaceLaws.{firstBad-behind, firstBad-inside}
 use Rattle.answers.specs.declared.Answer.{Answer}
 use Rattle.answers.specs.declared.Answer.the-variants.{Refused}
 use Rattle.stock_frame.specs.Outline.{lengthBytes, lengthCells, kindCells}
 use Rattle.stock_frame.specs.Format.{around, bodyHalf, digitAnswer}
 use Rattle.stock_frame.proofs.OutlineSteps.{length-bytes}
 
-module _ (cs : List Cell) (s : List ℕ) (few : length s ≤ 1024) (x : Place) (said : x ≡ firstBad cs 0 (looked s)) (before : ℕ) where
-  is : x ≡ firstBad cs 0 s
-  is = said ∙ ap (firstBad cs 0) (take-all 65535 s (omega arith))
-
-  shifted : firstBad cs before s ≡ behind before x
-  shifted =
-      let e : before + 0 ≡ before = omega arith in
-      ap (λ (k : ℕ). firstBad cs k s) (sym e) ∙ firstBad-behind cs before 0 s ∙ ap (behind before) (sym is)
-
-  pub place-half : (p : ℕ) → x ≡ Half p → Half (before + p) ≡ firstBad cs before s
-  place-half p e = sym (shifted ∙ ap (behind before) e)
-
-  pub place-none : x ≡ None → None ≡ firstBad cs before s
-  place-none e = sym (shifted ∙ ap (behind before) e)
-
-  pub place-small : (p : ℕ) → x ≡ Half p → p < 2 * length s
-  place-small p e = omega (arith, firstBad-inside cs 0 s p (sym is ∙ e))
+-- no part of a frame is longer than what is looked at
+pub all-looked : (cs : List Cell) (s : List ℕ) (p : ℕ) → length s ≤ 1024 → firstBad cs p (looked s) ≡ firstBad cs p s
+all-looked cs s p few = ap (firstBad cs p) (take-all 65535 s (omega arith))
 
 -- the length of a frame at a place of a line, half by half
 module _ (line : List ℕ) (at : ℕ) (enough : at + 3 ≤ length line) where

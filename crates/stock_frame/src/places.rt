@@ -8,7 +8,7 @@ ghost use Rattle.stock_frame.specs.Outline.{lengthBytes, lengthCells, ki
 ghost use Rattle.stock_frame.specs.Format.{digitAnswer};
 use answers::Answer;
 use digits::halves::Place;
-use layout::places::first_bad;
+use layout::places::first_bad_from;
 
 // The longest frame.
 const LONGEST: usize = 1024;
@@ -19,14 +19,11 @@ const HIGH: usize = 0;
 const LOW: usize = 1;
 
 // Of a part of a frame with some halves before it.
-fn place_in(cells: &[u8], s: &[u8], before: usize) -> Place
-    requires { ⌜ (before ≤ 20) × (length (now s) ≤ 1024) ⌝ }
+fn place_in(cells: &[u8], s: &[u8], before: u16) -> Place
+    requires { ⌜ length (now s) ≤ 1024 ⌝ }
     ensures { λ r. ⌜ r ≡ firstBad (cellsOf (now (cells .entry))) before (now (s .entry)) ⌝ }
 {
-    match first_bad(cells, s) {
-        Place::Half(p) => Place::Half(before as u32 + p),
-        Place::None => Place::None,
-    }
+    first_bad_from(cells, s, before)
 }
 
 // The place of a half of a frame's byte, which is counted from 0.

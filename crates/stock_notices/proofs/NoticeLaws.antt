@@ -1,18 +1,18 @@
 -- A notice and the numbers in its body tell each other; so both round trips hold.
-use Prim.Native.Nat.{ℕ, zero, suc, _+_, _-_, _≤_, _<_}
+use Prim.Native.Nat.{ℕ, zero, suc, _+_, _-_, _≤_}
 use mathlib.Core.Path.{_≡_, refl, sym, ap, ap₂, _∙_}
 use mathlib.Core.Bool.{true}
-use mathlib.Core.List.{List, [], _∷_, _++_}
+use mathlib.Core.List.{List, _∷_, _++_}
 use native.Mathlib.Omega.{arith}
-use lib.ListN.{length, getD, take, drop, replicate, length-append, length-drop, length-replicate, take-append-drop}
-use lib.Seq.{take-at, drop-at, length-take-le, sets-eq}
-use lib.Dec.{eqb, leb, lit<, lit≤}
-use borrow.Author.Tests.{eqb-true, leb-true}
+use lib.ListN.{length, getD, take, drop, replicate, length-replicate}
+use lib.Seq.{length-take-le, sets-eq}
+use lib.Dec.{leb, lit<, lit≤}
+use borrow.Author.Tests.{leb-true}
 use Rattle.digits.proofs.Bools.{and-left, and-right}
 use Rattle.layout.specs.Cells.{raw, size, fits, encode}
 use Rattle.stock_frame.specs.Outline.{own}
 use Rattle.stock_frame.specs.Format.{valuesOf, ranged}
-use Rattle.codes_times.specs.Times.{every}
+pub use Rattle.codes_times.proofs.RoomLaws.{every-zero, zeros-every, filled, length-filled, text-back, rest-tidy}
 use Rattle.stock_frame.specs.Codec.{legal, frameOf}
 use Rattle.layout.specs.Bytes.{bytesOver}
 use Rattle.layout.proofs.PutLaws.{bytes-in}
@@ -23,39 +23,7 @@ use Rattle.stock_notices.specs.Notices.{fiveCells, five, room, noticeOf,
 use Rattle.stock_notices.specs.declared.Notice.{Notice}
 use Rattle.stock_notices.proofs.RawLaws.{size-raws}
 
--- ---- zeros
--- bytes that are all zero
-pub every-zero : (l : List ℕ) → every (eqb 0) l ≡ true → l ≡ replicate (length l) 0
-every-zero [] h = refl
-every-zero (b ∷ l) h = ap₂ (λ (x : ℕ) (r : List ℕ). x ∷ r) (sym (eqb-true 0 b (and-left _ _ h))) (every-zero l (and-right (eqb 0 b) _ h))
-
--- zeros are all zero
-pub zeros-every : (n : ℕ) → every (eqb 0) (replicate n 0) ≡ true
-zeros-every zero = refl
-zeros-every (suc n) = zeros-every n
-
 -- ---- the room for text
--- the first n bytes of a text whose others are zero, filled up with zeros
-pub filled : (n r : ℕ) (t : List ℕ) → length t ≡ r → n ≤ r → every (eqb 0) (drop n t) ≡ true
-    → take n t ++ replicate (r - length (take n t)) 0 ≡ t
-filled n r t l h z =
-    let k : length (take n t) ≡ n = length-take-le n t (omega arith) in
-    let e : r - length (take n t) ≡ length (drop n t) = rw length-drop (omega arith) in
-    ap (λ (x : ℕ). take n t ++ replicate x 0) e
-    ∙ ap (λ (x : List ℕ). take n t ++ x) (sym (every-zero (drop n t) z)) ∙ take-append-drop n t
-
--- what is filled up with zeros has its room
-pub length-filled : (r : ℕ) (t : List ℕ) → length t ≤ r → length (t ++ replicate (r - length t) 0) ≡ r
-length-filled r t h = rw (length-append, length-replicate) (omega arith)
-
--- and gives the text back
-pub text-back : (t : List ℕ) (r : ℕ) → take (length t) (t ++ replicate (r - length t) 0) ≡ t
-text-back t r = take-at t (replicate (r - length t) 0) (length t) refl
-
--- and zeros behind it
-pub rest-tidy : (t : List ℕ) (r : ℕ) → every (eqb 0) (drop (length t) (t ++ replicate (r - length t) 0)) ≡ true
-rest-tidy t r = ap (every (eqb 0)) (drop-at t (replicate (r - length t) 0) (length t) refl) ∙ zeros-every (r - length t)
-
 -- fewer zeros
 drop-zeros : (n r : ℕ) → drop {A = ℕ} n (replicate r 0) ≡ replicate (r - n) 0
 drop-zeros zero r = let e : r - 0 ≡ r = omega arith in rw e
