@@ -7,6 +7,7 @@ use lib.Dec.{leb}
 use Rattle.digits.specs.Packed.{goodField, value}
 use Rattle.amounts.specs.declared.Price.{Price}
 use Rattle.amounts.specs.declared.Quantity.{Quantity}
+use Rattle.amounts.specs.declared.Thousandths.{Thousandths}
 use Rattle.amounts.specs.declared.PriceField.{PriceField}
 use Rattle.amounts.specs.declared.QuantityField.{QuantityField}
 use Rattle.amounts.specs.declared.PairField.{PairField}
@@ -24,6 +25,9 @@ asPrice n = record { 0 = n }
 
 abbrev pub asQuantity : ℕ → Quantity
 asQuantity n = record { 0 = n }
+
+abbrev pub asThousandths : ℕ → Thousandths
+asThousandths n = record { 0 = n }
 
 abbrev pub priceOf : List ℕ → PriceField
 priceOf bs = cond (goodField priceDigits bs) (PriceField.Is (asPrice (value bs))) PriceField.Bad

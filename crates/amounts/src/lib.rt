@@ -1,4 +1,4 @@
-// Prices and quantities, kept apart by their types.
+// Prices, quantities and index values, kept apart by their types.
 ghost use mathlib.Core.Path.{_≡_};
 ghost use Rattle.amounts.specs.Amounts.{priceAt, quantityAt, pairAt};
 use words::blocks::eight_at;
@@ -15,6 +15,9 @@ pub struct Price(pub u32);
 
 // A quantity in the stock's own trading units.
 pub struct Quantity(pub u32);
+
+// An index value in thousandths.
+pub struct Thousandths(pub u32);
 
 // A price with the quantity offered or traded at it.
 pub struct Pair {
@@ -85,6 +88,11 @@ impl Quantity {
             QuantityField::Bad
         }
     }
+}
+
+impl Thousandths {
+    // 99,999.999
+    pub const MOST: u32 = 99_999_999;
 }
 
 impl Pair {

@@ -1,0 +1,28 @@
+-- A frame closed around a body that stands at its place in a buffer.
+use Prim.Native.Nat.{ℕ, _-_, _^_}
+use mathlib.Core.Bool.{Bool, cond, _&&_}
+use mathlib.Core.List.{List, [], _∷_, _++_}
+use lib.ListN.{length, take, drop}
+use lib.Dec.{leb, ltb}
+use Rattle.answers.specs.declared.Written.{Written}
+use Rattle.answers.specs.declared.Written.the-variants.{Done, Illegal, NoRoom}
+use Rattle.frame.specs.Header.{start, around}
+use Rattle.frame.specs.Writing.{frameAround}
+use Rattle.derivatives_frame.specs.Outline.{header}
+
+-- the header's numbers
+abbrev pub headNumbers : ℕ → ℕ → ℕ → ℕ → ℕ → List ℕ
+headNumbers market kind sent seq version = market ∷ kind ∷ sent ∷ seq ∷ version ∷ []
+
+-- a frame of n bytes can stand at the start of a buffer: its header's numbers fit their cells, and n is a length
+abbrev pub closable : ℕ → ℕ → ℕ → ℕ → Bool
+closable sent seq version n = ltb sent (10 ^ 8) && (ltb seq (10 ^ 8) && (ltb version 100 && (leb 17 n && leb n 1024)))
+
+-- what closing the frame of n bytes around its body answers, and the buffer afterwards
+abbrev pub closeAnswer : ℕ → ℕ → ℕ → ℕ → List ℕ → Written
+closeAnswer sent seq version n buf = cond (closable sent seq version n) (cond (leb n (length buf)) (Done n) NoRoom) Illegal
+
+abbrev pub closedOver : ℕ → ℕ → ℕ → ℕ → ℕ → ℕ → List ℕ → List ℕ
+closedOver market kind sent seq version n buf =
+    cond (closable sent seq version n && leb n (length buf))
+    (frameAround header (headNumbers market kind sent seq version) [] (take (n - around header) (drop (start header) buf)) ++ drop n buf) buf

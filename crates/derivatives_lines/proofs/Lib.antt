@@ -1,0 +1,5 @@
+-- The laws that the proofs cite, and the theorems that belong to no one function.
+pub mod LineLaws
+pub mod LineTheorems
+pub mod Determined
+pub mod DeterminedTally
