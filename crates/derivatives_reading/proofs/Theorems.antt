@@ -35,9 +35,11 @@ index-speaks = record {
       let b = body header f in
       let vs = valuesOf b in
       let a = all-hold (indexChecks (market f) (kind f) (sent f) (version f) b) refl p in
-      let tests = known (market f) (kind f) ∷ eqb (version f) (versionOf (kind f)) ∷ bodyLength (length b) ∷ timed (sent f) vs ∷ ruled (kind f) vs ∷ [] in
-      (eq-eqb _ _ (size-cells b (a .1 .1 .0)), a .1 .1 .1 .0,
-        together tests (a .0 also a .1 .0 also a .1 .1 .0 also a .1 .1 .1 .1 .0 also a .1 .1 .1 .1 .1 .0 also all));
+      let tests = known (market f) (kind f) ∷ eqb (version f) (versionOf (kind f)) ∷ bodyLength (length b) ∷ timed (sent f) vs ∷ ruled (kind f) vs ∷ [] in (
+        eq-eqb _ _ (size-cells b (a .1 .1 .0)),
+        a .1 .1 .1 .0,
+        together tests (a .0 also a .1 .0 also a .1 .1 .0 also a .1 .1 .1 .1 .0 also a .1 .1 .1 .1 .1 .0 also all),
+      );
 }
 
 -- accepted exactly where every check of the rules' table holds; else the first that fails
