@@ -1,13 +1,10 @@
 -- A frame closed around a body that stands at its place in a buffer.
-use Prim.Native.Nat.{ℕ, _-_, _^_}
-use mathlib.Core.Bool.{Bool, cond, _&&_}
-use mathlib.Core.List.{List, [], _∷_, _++_}
-use lib.ListN.{length, take, drop}
+use Prim.Native.Nat.{ℕ, _^_}
+use mathlib.Core.Bool.{Bool, _&&_}
+use mathlib.Core.List.{List, [], _∷_}
 use lib.Dec.{leb, ltb}
 use Rattle.answers.specs.declared.Written.{Written}
-use Rattle.answers.specs.declared.Written.the-variants.{Done, Illegal, NoRoom}
-use Rattle.frame.specs.Header.{start, around}
-use Rattle.frame.specs.Writing.{frameAround}
+use Rattle.frame.specs.Writing as common
 use Rattle.derivatives_frame.specs.Outline.{header}
 
 -- the header's numbers
@@ -20,9 +17,8 @@ closable sent seq version n = ltb sent (10 ^ 8) && (ltb seq (10 ^ 8) && (ltb ver
 
 -- what closing the frame of n bytes around its body answers, and the buffer afterwards
 abbrev pub closeAnswer : ℕ → ℕ → ℕ → ℕ → List ℕ → Written
-closeAnswer sent seq version n buf = cond (closable sent seq version n) (cond (leb n (length buf)) (Done n) NoRoom) Illegal
+closeAnswer sent seq version n buf = common.closeAnswer (closable sent seq version n) n buf
 
 abbrev pub closedOver : ℕ → ℕ → ℕ → ℕ → ℕ → ℕ → List ℕ → List ℕ
 closedOver market kind sent seq version n buf =
-    cond (closable sent seq version n && leb n (length buf))
-    (frameAround header (headNumbers market kind sent seq version) [] (take (n - around header) (drop (start header) buf)) ++ drop n buf) buf
+    common.closedOver header (closable sent seq version n) (headNumbers market kind sent seq version) [] n buf

@@ -6,3 +6,4 @@ pub mod CloseLaws
 pub mod WriteLaws
 pub mod OutlineSteps
 pub mod LineSteps
+pub mod MessageLaws

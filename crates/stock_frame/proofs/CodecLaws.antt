@@ -114,7 +114,7 @@ module _ {M : Type 0} (C : Codec M) (vs ks b : List ℕ) (a : common.Allowed (as
 
 module _ {M : Type 0} (C : Codec M) (Shaped : M → Type 0) (law : Lawful C Shaped) where
   -- ---- a message is legal by the common tests exactly where it is by the stock exchange's
-  legal-common : (m : M) → legal C m ≡ true → common.legal (asCommon C) m ≡ true
+  pub legal-common : (m : M) → legal C m ≡ true → common.legal (asCommon C) m ≡ true
   legal-common m l =
       let range = range-bounds (C .form) (size (C .cells m)) (legal-range C m l) in
       together (common.legalTests (asCommon C) m)
@@ -146,7 +146,7 @@ module _ {M : Type 0} (C : Codec M) (Shaped : M → Type 0) (law : Lawful C Shap
       also all)
 
   -- ---- what the common round trips ask
-  common-lawful : common.Lawful (asCommon C) Shaped
+  pub common-lawful : common.Lawful (asCommon C) Shaped
   common-lawful = record {
     header-law = header-law;
     cells-told = λ m s l. law .cells-told m s (laws.legal-fits (asCommon C) m l);

@@ -1,16 +1,14 @@
 -- A frame written: 27, what it covers, the check byte, 0D 0A; and what a writing answers and leaves.
-use Prim.Native.Nat.{ℕ, _+_, _-_, _^_}
-use mathlib.Core.Bool.{Bool, cond, _&&_}
-use mathlib.Core.List.{List, [], _∷_, _++_}
-use lib.ListN.{length, take, drop}
+use Prim.Native.Nat.{ℕ, _^_}
+use mathlib.Core.Bool.{Bool, _&&_}
+use mathlib.Core.List.{List, [], _∷_}
 use lib.Dec.{leb, ltb}
 use Rattle.layout.specs.Cells.{Cell, encode}
 use Rattle.frame.specs.Writing as common
 pub use Rattle.frame.specs.Writing.{sealed, writeAnswer, writtenOver}
 use Rattle.stock_frame.specs.Outline.{header}
-use Rattle.stock_frame.specs.Format.{Format, around}
+use Rattle.stock_frame.specs.Format.{Format}
 use Rattle.answers.specs.declared.Written.{Written}
-use Rattle.answers.specs.declared.Written.the-variants.{Done, Illegal, NoRoom}
 
 -- the header's numbers
 abbrev pub headValues : ℕ → ℕ → ℕ → ℕ → List ℕ
@@ -30,9 +28,7 @@ closable format version seq n = ltb format 100 && (ltb version 100 && (ltb seq (
 
 -- the body stands at its place in the buffer: what closing the frame of n bytes around it answers, and the buffer afterwards
 abbrev pub closeAnswer : ℕ → ℕ → ℕ → ℕ → List ℕ → Written
-closeAnswer format version seq n buf = cond (closable format version seq n) (cond (leb n (length buf)) (Done n) NoRoom) Illegal
+closeAnswer format version seq n buf = common.closeAnswer (closable format version seq n) n buf
 
 abbrev pub closedOver : ℕ → ℕ → ℕ → ℕ → List ℕ → List ℕ
-closedOver format version seq n buf =
-    cond (closable format version seq n && leb n (length buf))
-    (frameAround format version seq (take (n - around) (drop 10 buf)) ++ drop n buf) buf
+closedOver format version seq n buf = common.closedOver header (closable format version seq n) [] (1 ∷ format ∷ version ∷ seq ∷ []) n buf
