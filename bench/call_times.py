@@ -15,6 +15,7 @@ ITEMS = {
     "board": "a message of 11 pairs on a full board, or a row asked for (the second program lends its own)",
     "capture": "a payload appended, or read at its place, or how many are finished: each looks over all 65,536 bytes",
     "walk": "a frame of a line in memory, walked for its tally",
+    "index values": "one read whole, or for its answer, or written; a frame of a line of them walked for its tally",
     "digits": "a packed byte read alone (the second program works it out of its halves), or a table of 256",
 }
 

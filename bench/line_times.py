@@ -13,6 +13,7 @@ import machine
 WORK = machine.ROOT / "target" / "bench"
 MB = 10 ** 6
 NAMES = "listing", "messages", "refusals", "gaps", "board"
+DERIVATIVES = "derivatives-2015"  # the word for a line of the derivatives exchange
 
 
 # ---------------------------------------------------------------------------------------------------------------------
@@ -26,11 +27,21 @@ def quote(seq, chance):
     """A quote of 113 bytes: a trade, four bids and four asks."""
     body = b"%-6d" % chance.randrange(1000, 10000) + packed(90415061278, 12) + bytes([0xC8, 0, 0]) + packed(chance.randrange(10 ** 8), 8)
     body += b"".join(packed(chance.randrange(10 ** 9), 9) + packed(chance.randrange(10 ** 8), 8) for _ in range(9))
-    inner = packed(13 + len(body), 4) + b"\x01\x06\x04" + packed(seq, 8) + body
+    return around(packed(13 + len(body), 4) + b"\x01\x06\x04" + packed(seq, 8) + body)
+
+
+def around(inner):
+    """The frame around what its check byte covers."""
     check = 0
     for byte in inner:
         check ^= byte
     return b"\x1b" + inner + bytes([check]) + b"\r\n"
+
+
+def index_value(seq, chance):
+    """An index value of 29 bytes: I060 with a short contract."""
+    body = b"TXF" + packed(9041506, 8) + packed(chance.randrange(10 ** 8), 8) + b"\0"
+    return around(b"15" + packed(9041512, 8) + packed(seq, 8) + b"\x02" + packed(len(body), 4) + body)
 
 
 def spoiled(frame):
@@ -40,7 +51,7 @@ def spoiled(frame):
 
 
 def lines(quick, most):
-    """Name, what is repeated, and how many bytes of it, for good frames some MB at most."""
+    """The word for the exchange, if it needs one, name, what is repeated, and how many bytes of it, for good frames some MB at most."""
     chance = random.Random(1)
     quotes = [quote(seq, chance) for seq in range(1, 2001 if quick else 20001)]
     good, bad = b"".join(quotes), b"".join(map(spoiled, quotes))
@@ -48,13 +59,14 @@ def lines(quick, most):
     false_frames = b"".join(b"\x1b" + packed(1024 - 3 * n, 4) for n in range(10)) + b"\r\n"
     for size in [1, 10] if quick else [1, 10, 100, 200, 1000]:
         if size <= most:
-            yield "good frames of 113 bytes", good, size * MB
+            yield [], "good frames of 113 bytes", good, size * MB
     size = (2 if quick else 20) * MB
-    yield "the same with a bad digit each", bad, size
-    yield "noise without a 27", bytes(range(28, 255)), size
-    yield "all 27s", b"\x1b", size
-    yield "false lengths of 1,024", b"\x1b\x10\x24", size
-    yield "false frames with right ends", false_frames, size
+    yield [], "the same with a bad digit each", bad, size
+    yield [], "noise without a 27", bytes(range(28, 255)), size
+    yield [], "all 27s", b"\x1b", size
+    yield [], "false lengths of 1,024", b"\x1b\x10\x24", size
+    yield [], "false frames with right ends", false_frames, size
+    yield [DERIVATIVES], "index values of 29 bytes", b"".join(index_value(seq, chance) for seq in range(1, 20001)), 5 * size
 
 
 def write(path, block, size):
@@ -66,16 +78,16 @@ def write(path, block, size):
 
 # ---------------------------------------------------------------------------------------------------------------------
 
-def timed(program, line, output):
+def timed(command, line, output):
     with open(line, "rb") as source, open(output, "wb") as sink:
         start = time.perf_counter()
-        subprocess.run([program], stdin=source, stdout=sink, check=True)
+        subprocess.run(command, stdin=source, stdout=sink, check=True)
         return time.perf_counter() - start
 
 
-def memory(program, line):
+def memory(command, line):
     """The most memory of a run: what the system says when all but the last bytes of the line are read."""
-    with open(line, "rb") as source, subprocess.Popen([program], stdin=subprocess.PIPE, stdout=subprocess.DEVNULL) as run:
+    with open(line, "rb") as source, subprocess.Popen(command, stdin=subprocess.PIPE, stdout=subprocess.DEVNULL) as run:
         shutil.copyfileobj(source, run.stdin, MB)
         run.stdin.flush()
         try:
@@ -86,10 +98,10 @@ def memory(program, line):
     return f"{int(most[0]) / 1000:.1f} MB" if most else "-"
 
 
-def one(programs, name, line, rounds):
+def one(commands, name, line, rounds):
     """Compares both on a line, times each in its turn, and prints a row."""
     outputs = WORK / "proved", WORK / "second"
-    turn = lambda: [timed(program, line, output) for program, output in zip(programs, outputs)]
+    turn = lambda: [timed(command, line, output) for command, output in zip(commands, outputs)]
     turn()
     if not filecmp.cmp(*outputs, shallow=False):
         sys.exit(f"bench: the outputs for {name} differ: {outputs[0]} and {outputs[1]}")
@@ -97,7 +109,7 @@ def one(programs, name, line, rounds):
     proved, second = map(min, zip(*rows))
     length = line.stat().st_size
     print(f"  {name:32} {length / MB:6.0f} {proved:9.3f} {second:9.3f} {proved / second:6.2f} {length / proved / MB:7.0f} {proved / length * 1e9:8.2f}"
-          + "".join(f" {memory(program, line):>9}" for program in programs))
+          + "".join(f" {memory(command, line):>9}" for command in commands))
 
 
 class Program:
@@ -116,12 +128,14 @@ class Program:
         print(f"  {'':32} {'MB':>6} {'proved s':>9} {'second s':>9} {'ratio':>6} {'MB/s':>7} {'ns/byte':>8} {'memory':>9} {'second':>9}")
         line = WORK / "line"
         try:
-            for name, block, size in lines(quick, self.most):
+            for words, name, block, size in lines(quick, self.most):
+                if words and self.name != "listing":
+                    continue
                 if shutil.disk_usage(WORK).free < 12 * size + 1000 * MB:
                     print(f"  {name:32} {size / MB:6.0f} left out: the disk has no room for it")
                     continue
                 write(line, block, size)
-                one(programs, name, line, 3 if quick or size >= 500 * MB else 5)
+                one([[program, *words] for program in programs], name, line, 3 if quick or size >= 500 * MB else 5)
         finally:
             line.unlink(missing_ok=True)
         for output in ("proved", "second"):

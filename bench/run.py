@@ -3,7 +3,7 @@
 
 run.py [--quick] [calls | listing | messages | refusals | gaps | board]
 
-calls     reading and writing of each format, frames refused for a bad digit, arrivals at a ledger, a full board, a capture, a line walked, and packed digits, call by call
+calls     reading and writing of each format, frames refused for a bad digit, arrivals at a ledger, a full board, a capture, a line walked, index values, and packed digits, call by call
 listing, messages, refusals, gaps, board
           the programs on whole lines: good frames of growing length, and the worst lines
 --quick   smaller and fewer, done in seconds once all is built

@@ -26,6 +26,9 @@
  *                            11  a bad digit in the body, with its place
  *                            12  a time that breaks its rule
  *                            13  any other field that does
+ *                            On a line of the derivatives exchange 3 speaks of the body's length, and of a frame that would
+ *                            have over 1,024 bytes; 6 of bytes 4 to 12, 7 of market and kind, 9 of a body of other than 12 or
+ *                            17 bytes, 13 of the contract and the reserved bits of the status; 10 is not answered
  *   writing                   0  written
  *                            14  the message breaks a rule, what it leaves unused is not zero, or a quote says of its levels
  *                                what its reveal byte does not
@@ -50,8 +53,10 @@
  *                            33  a block is bad, with the place of the first one (trivsome_block)
  *                            32  all 128 blocks are finished
  *
- * docs/RULES.md has the rules. Prices are in ten-thousandths, quantities in the stock's trading units; times of day are
- * numbers of the digits HHMMSSffffff or HHMMSS; codes are six characters, filled up with spaces, with no zero behind them.
+ * docs/RULES.md has the rules. Prices are in ten-thousandths, quantities in the stock's trading units, index values in
+ * thousandths; times of day are numbers of the digits HHMMSSffffff or HHMMSS, on the derivatives exchange HHMMSScc; codes are six
+ * characters, filled up with spaces, with no zero behind them. A line is one of the stock exchange, unless a call says that it is
+ * one of the derivatives exchange, which is meant in its edition of 2015.
  */
 #ifndef TRIVSOME_H
 #define TRIVSOME_H
@@ -65,10 +70,10 @@
 extern "C" {
 #endif
 
-/* The formats of frames. */
-enum { TRIVSOME_NOTICE = 5, TRIVSOME_QUOTE = 6, TRIVSOME_PRICES = 12, TRIVSOME_HALT = 19 };
+/* The formats of frames; of the derivatives exchange I060, an index value, and I064, its trial match and state. */
+enum { TRIVSOME_NOTICE = 5, TRIVSOME_QUOTE = 6, TRIVSOME_PRICES = 12, TRIVSOME_HALT = 19, TRIVSOME_I060 = 60, TRIVSOME_I064 = 64 };
 
-/* The longest frame of the four formats, so the size of a buffer that every message finds room in. */
+/* The longest frame of all formats, so the size of a buffer that every message finds room in. */
 #define TRIVSOME_LONGEST 374
 /* A time in place of a time of day: of a quote, the day's last frame; of a slot, the last price is the closing price. */
 #define TRIVSOME_NINES UINT64_C(999999999999)
@@ -97,6 +102,7 @@ static inline bool trivsome_is_notice(uint64_t outcome) { return trivsome_format
 static inline bool trivsome_is_quote(uint64_t outcome) { return trivsome_format(outcome) == TRIVSOME_QUOTE; }
 static inline bool trivsome_is_prices(uint64_t outcome) { return trivsome_format(outcome) == TRIVSOME_PRICES; }
 static inline bool trivsome_is_halt(uint64_t outcome) { return trivsome_format(outcome) == TRIVSOME_HALT; }
+static inline bool trivsome_is_index(uint64_t outcome) { return trivsome_format(outcome) == TRIVSOME_I060 || trivsome_format(outcome) == TRIVSOME_I064; }
 
 /* Of a reading: the frame's length for 0 and 6 to 13, else 0. Of a writing: the bytes written. Of a move: the bytes that it
  * goes past; 0 where the walk stops. Of trivsome_capture_payload: the bytes of the payload, 0 where there is none. */
@@ -108,7 +114,8 @@ static inline uint32_t trivsome_seq(uint64_t outcome) { return trivsome_answer(o
 /* Of a reading or a move: whether it tells the place of a bad digit, which 6 and 11 do, and 3 where a digit of the length is the
  * cause; and which place, 0 where it tells none. The place is that of the first bad half byte, counted in halves from the frame's
  * first byte, the 27: it is in byte place / 2, from 0, in the high half if place is even and in the low half if it is odd. Beside
- * 3 it is 2 to 5, beside 6 it is 6 to 19, beside 11 it is 20 or more. A price's first half of 1 to 9 is a bad digit too. */
+ * 3 it is 2 to 5, beside 6 it is 6 to 19, beside 11 it is 20 or more; on a line of the derivatives exchange 24 to 27, 6 to 23, and
+ * 34 to 59. A price's first half of 1 to 9 is a bad digit too. */
 static inline bool trivsome_bad_half(uint64_t outcome, size_t *place)
 {
     uint32_t above = trivsome_answer(outcome) != 0 ? (uint32_t)(outcome >> 32) : 0; /* a place and one, or 0 for none */
@@ -136,8 +143,9 @@ static inline size_t trivsome_start(uint64_t outcome) { return (size_t)(outcome 
 
 /* ------------------------------------------------------------------------------------------------------------------------
  * Messages. What a struct of zeros is, made by {0} or in C++ by {}: a notice of category 0 without text, which can be written;
- * a quote, prices or a halt that cannot, and answers 14, since six zeros are no code. Prices start from TRIVSOME_NO_PRICES
- * instead. A tally, a ledger and a capture of zeros, further below, are fresh ones, and a board of zeros is clear.
+ * a quote, prices or a halt that cannot, and answers 14, since six zeros are no code; nor can an index value, of no market. Prices
+ * start from TRIVSOME_NO_PRICES instead. A tally, a ledger and a capture of zeros, further below, are fresh ones, and a board of
+ * zeros is clear.
  */
 
 typedef struct {
@@ -222,6 +230,19 @@ typedef struct {
     uint32_t resume;  /* of a halt: HHMMSS, or TRIVSOME_OPEN while it is open, else 0 */
 } trivsome_halt;
 
+/* An index value of the derivatives exchange: what the underlying of a contract stood at, and when. */
+typedef struct {
+    uint32_t seq;
+    uint8_t market;      /* '1' futures, '4' options */
+    uint8_t kind;        /* '5' in I060, '8' in I064 */
+    uint8_t length;      /* of the contract, 3 or 8 */
+    uint8_t status;      /* bit 0 in I060, bits 0 to 2 in I064; the others are reserved, and clear */
+    uint8_t contract[8]; /* bytes of 32 to 126; zeros behind its length */
+    uint32_t sent;       /* HHMMSScc: when the frame was sent */
+    uint32_t time;       /* HHMMSScc: of the value */
+    uint32_t value;      /* in thousandths, up to 99,999,999 */
+} trivsome_index;
+
 /* ------------------------------------------------------------------------------------------------------------------------
  * The calls of the archive: bytes and numbers. Those on messages, tallies, ledgers and boards have an easier form below.
  */
@@ -239,20 +260,30 @@ uint64_t trivsome_read_quote_numbers(const uint8_t *line, size_t length, size_t 
 uint64_t trivsome_read_prices_numbers(const uint8_t *line, size_t length, size_t at, uint8_t *count, uint8_t codes[60], uint32_t amounts[50], uint64_t times[10]);
 uint64_t trivsome_read_halt_numbers(const uint8_t *line, size_t length, size_t at, uint8_t code[6], uint32_t event[4]);
 
+/* The same on a line of the derivatives exchange. The bytes of an index value: market, kind, length of the contract, status; the
+ * numbers: sent, time, value. Each of its accepted frames is one. */
+uint64_t trivsome_derivatives_read(const uint8_t *line, size_t length, size_t at);
+uint64_t trivsome_read_index_numbers(const uint8_t *line, size_t length, size_t at, uint8_t contract[8], uint8_t bytes[4], uint32_t numbers[3]);
+
 /* Writes a message as a frame at the start of a buffer: 0, 14 or 15, and the bytes written. No byte behind them changes. */
 uint64_t trivsome_write_notice_numbers(uint32_t seq, uint8_t category, const uint8_t *text, size_t length, uint8_t *buf, size_t size);
 uint64_t trivsome_write_quote_numbers(uint32_t seq, const uint8_t bytes[9], uint64_t time, const uint32_t amounts[23], uint8_t *buf, size_t size);
 uint64_t trivsome_write_prices_numbers(uint32_t seq, uint8_t count, const uint8_t codes[60], const uint32_t amounts[50], const uint64_t times[10], uint8_t *buf, size_t size);
 uint64_t trivsome_write_halt_numbers(uint32_t seq, const uint8_t code[6], const uint32_t event[4], uint8_t *buf, size_t size);
+uint64_t trivsome_write_index_numbers(uint32_t seq, const uint8_t contract[8], const uint8_t bytes[4], const uint32_t numbers[3], uint8_t *buf, size_t size);
 
 /* The move of a walk at a place of a line: the answer there, 0 to 13, and as its length the bytes to go past: a whole frame
  * for 0 and 6 to 13, else one. It is 0, and the answer 2, where the walk stops: at the line's end, and on a line that is not
- * closed where a frame may still be coming. Closed means that no more bytes will come. */
+ * closed where a frame may still be coming. Closed means that no more bytes will come. The second is for a line of the
+ * derivatives exchange. */
 uint64_t trivsome_move(const uint8_t *line, size_t length, size_t at, bool closed);
+uint64_t trivsome_derivatives_move(const uint8_t *line, size_t length, size_t at, bool closed);
 
 /* Walks a whole line, and moves a tally on: accepted, refused and skipped bytes grow by the walk's, waiting bytes become the
- * walk's. 0 or 16. See trivsome_walk_line below. */
+ * walk's. 0 or 16. The second is for a line of the derivatives exchange. See trivsome_walk_line and
+ * trivsome_derivatives_walk_line below. */
 uint64_t trivsome_walk(uint64_t tally[4], const uint8_t *line, size_t length, bool closed);
+uint64_t trivsome_derivatives_walk(uint64_t tally[4], const uint8_t *line, size_t length, bool closed);
 
 /* The ledger, by the ends in its record, its floor, and how many numbers were given up. See trivsome_ledger below, and the calls
  * that take one. */
@@ -432,6 +463,26 @@ static inline uint64_t trivsome_read_halt(const uint8_t *line, size_t length, si
     return outcome;
 }
 
+/* Reads an index value on a line of the derivatives exchange: 0 to 13. */
+static inline uint64_t trivsome_read_index(const uint8_t *line, size_t length, size_t at, trivsome_index *index)
+{
+    uint8_t contract[8] = {0}, bytes[4] = {0};
+    uint32_t numbers[3] = {0};
+    uint64_t outcome = trivsome_read_index_numbers(line, length, at, contract, bytes, numbers);
+    if (trivsome_is_index(outcome)) {
+        index->seq = trivsome_seq(outcome);
+        index->market = bytes[0];
+        index->kind = bytes[1];
+        index->length = bytes[2];
+        index->status = bytes[3];
+        memcpy(index->contract, contract, sizeof contract);
+        index->sent = numbers[0];
+        index->time = numbers[1];
+        index->value = numbers[2];
+    }
+    return outcome;
+}
+
 /* Writes a notice: 0, 14 or 15. */
 static inline uint64_t trivsome_write_notice(const trivsome_notice *notice, uint8_t *buf, size_t size)
 {
@@ -483,6 +534,14 @@ static inline uint64_t trivsome_write_halt(const trivsome_halt *halt, uint8_t *b
     return trivsome_write_halt_numbers(halt->seq, halt->code, event, buf, size);
 }
 
+/* Writes an index value: 0, 14 or 15. */
+static inline uint64_t trivsome_write_index(const trivsome_index *index, uint8_t *buf, size_t size)
+{
+    uint8_t bytes[4] = {index->market, index->kind, index->length, index->status};
+    uint32_t numbers[3] = {index->sent, index->time, index->value};
+    return trivsome_write_index_numbers(index->seq, index->contract, bytes, numbers, buf, size);
+}
+
 /* Bytes of a line, or of all lines of a day, by what became of them. All zeros are a fresh tally. */
 typedef struct {
     uint64_t accepted;
@@ -491,15 +550,30 @@ typedef struct {
     uint64_t waiting;
 } trivsome_tally;
 
+/* A tally of its four figures. */
+static inline void trivsome_tally_of(const uint64_t figures[4], trivsome_tally *tally)
+{
+    tally->accepted = figures[0];
+    tally->refused = figures[1];
+    tally->skipped = figures[2];
+    tally->waiting = figures[3];
+}
+
 /* Walks a whole line, and moves a tally on, as trivsome_walk does: 0 or 16. */
 static inline uint64_t trivsome_walk_line(trivsome_tally *tally, const uint8_t *line, size_t length, bool closed)
 {
     uint64_t figures[4] = {tally->accepted, tally->refused, tally->skipped, tally->waiting};
     uint64_t outcome = trivsome_walk(figures, line, length, closed);
-    tally->accepted = figures[0];
-    tally->refused = figures[1];
-    tally->skipped = figures[2];
-    tally->waiting = figures[3];
+    trivsome_tally_of(figures, tally);
+    return outcome;
+}
+
+/* The same of a line of the derivatives exchange. */
+static inline uint64_t trivsome_derivatives_walk_line(trivsome_tally *tally, const uint8_t *line, size_t length, bool closed)
+{
+    uint64_t figures[4] = {tally->accepted, tally->refused, tally->skipped, tally->waiting};
+    uint64_t outcome = trivsome_derivatives_walk(figures, line, length, closed);
+    trivsome_tally_of(figures, tally);
     return outcome;
 }
 

@@ -155,7 +155,7 @@ fn begins_price(format: u8, byte: usize) -> bool {
 }
 
 /// Puts a half into a frame, and the check byte that goes with it.
-fn put(frame: &mut [u8], half: usize, value: u8) {
+pub fn put(frame: &mut [u8], half: usize, value: u8) {
     let (before, check) = (frame[half / 2], frame.len() - 3);
     let byte = match half % 2 {
         0 => before & 0x0F | value << 4,

@@ -14,6 +14,8 @@ mod capture_calls;
 mod damage;
 mod digits;
 mod disorder;
+mod exchange;
+mod index;
 mod quotes;
 mod reading;
 mod record;

@@ -2,16 +2,18 @@
 
 use std::fmt::Debug;
 
-use second::{board, five, nineteen, six, twelve};
+use second::{board, derivatives, five, nineteen, six, twelve};
+
+use crate::exchange::Told;
 
 /// An outcome of a reading: answer, format and length in one number, and above them an accepted frame's number or the place of a
 /// refused one's bad half.
-pub fn outcome(answer: &second::Answer) -> u64 {
+pub fn outcome<M: Told>(answer: &second::Answer<M>) -> u64 {
     moved(answer, answer.length().unwrap_or(0))
 }
 
 /// The same of a move, which has the bytes that it goes past for a length.
-pub fn moved(answer: &second::Answer, bytes: usize) -> u64 {
+pub fn moved<M: Told>(answer: &second::Answer<M>, bytes: usize) -> u64 {
     match answer.message() {
         Some(message) => packed(0, message.format(), bytes, message.number()),
         None => packed(answer.number(), 0, bytes, above(answer.place())),
@@ -167,6 +169,21 @@ pub fn event(halt: &nineteen::Halt) -> [u32; 4] {
         nineteen::Event::Halted { at, resume: nineteen::Resume::Open } => [1, at, 999_999, state],
         nineteen::Event::Halted { at, resume: nineteen::Resume::At(999_999) } => [1, at, 1_999_999, state],
         nineteen::Event::Halted { at, resume: nineteen::Resume::At(resumed) } => [1, at, resumed, state],
+    }
+}
+
+/// The index value. A contract's length that no byte holds is the largest that one does.
+pub fn index(message: &derivatives::Message) -> trivsome::Index {
+    trivsome::Index {
+        seq: message.seq,
+        sent: message.sent,
+        time: message.time,
+        value: trivsome::Thousandths(message.value.0),
+        market: message.market,
+        kind: message.kind.byte(),
+        length: message.contract_length.min(255) as u8,
+        status: message.status,
+        contract: message.contract,
     }
 }
 

@@ -1,21 +1,22 @@
 //! Walks: every move over a line, open and closed, and the tally.
 
 use std::fmt;
+use std::marker::PhantomData;
 
 use second::random::Random;
-use second::seen::around;
-use second::walk::{walk, Kind};
-use trivsome::raw;
+use second::seen::around_of;
+use second::walk::{walk_of, Kind};
 
+use crate::exchange::Walked;
 use crate::same::{above, differ, moved, outcome, packed, told};
 
 /// How many pieces of a line are walked beside the whole of it, and their most bytes.
 const PIECES: usize = 20;
 const PIECE: usize = 3000;
 
-/// What occurred.
-#[derive(Default)]
-pub struct Walks {
+/// What occurred on the lines of an exchange.
+pub struct Walks<E> {
+    exchange: PhantomData<E>,
     lines: u64,
     moves: u64,
     waits: u64,
@@ -25,7 +26,13 @@ pub struct Walks {
     tallies: [u64; 2],
 }
 
-impl Walks {
+impl<E> Default for Walks<E> {
+    fn default() -> Walks<E> {
+        Walks { exchange: PhantomData, lines: 0, moves: 0, waits: 0, bad_halves: [0; 3], tallies: [0; 2] }
+    }
+}
+
+impl<E: Walked> Walks<E> {
     /// Compares the walks over a line and some pieces of it.
     pub fn line(&mut self, line: &[u8], random: &mut Random) -> Result<(), String> {
         self.walk(line, random)?;
@@ -51,9 +58,9 @@ impl Walks {
     }
 
     fn moves(&mut self, line: &[u8], ours: trivsome::Line, theirs: second::walk::Line) -> Result<(), String> {
-        let mut proved = trivsome::Moves::new(line, ours);
-        for step in walk(line, theirs) {
-            let within = |what: String| format!("place {}: {what}\n{}", step.place, around(line, step.place));
+        let mut proved = E::moves(line, ours);
+        for step in walk_of::<E>(line, theirs) {
+            let within = |what: String| format!("place {}: {what}\n{}", step.place, around_of::<E>(line, step.place));
             self.moves += 1;
             let waiting = step.kind == Kind::Waiting;
             let own = proved.next();
@@ -67,7 +74,7 @@ impl Walks {
             }
             let bytes = if waiting { 0 } else { step.bytes };
             let (outcome, expected) =
-                (raw::move_at(line, step.place, ours == trivsome::Line::Closed), moved(&step.answer, bytes));
+                (E::move_at(line, step.place, ours == trivsome::Line::Closed), moved(&step.answer, bytes));
             if outcome != expected {
                 return Err(within(differ("the move's outcome", &told(outcome), &told(expected))));
             }
@@ -86,14 +93,16 @@ impl Walks {
             }
         }
         for place in [line.len(), line.len() + 1, usize::MAX] {
-            let outcome = raw::move_at(line, place, ours == trivsome::Line::Closed);
+            let outcome = E::move_at(line, place, ours == trivsome::Line::Closed);
             if outcome != 2 {
                 return Err(format!("behind {} bytes, at {place}, there is a move: {}", line.len(), told(outcome)));
             }
         }
         match proved.next() {
             None => Ok(()),
-            Some(more) => Err(format!("a move more than the second program's: {more:?}\n{}", around(line, more.at))),
+            Some(more) => {
+                Err(format!("a move more than the second program's: {more:?}\n{}", around_of::<E>(line, more.at)))
+            }
         }
     }
 
@@ -117,8 +126,8 @@ impl Walks {
         let mut second = second::walk::Tally { accepted, refused, skipped, waiting };
         let before = second;
         let mut again = [accepted, refused, skipped, waiting];
-        let outcome = raw::walk(&mut again, line, ours == trivsome::Line::Closed);
-        let answers = (proved.walk(line, ours).is_ok(), second.walk(line, theirs).is_ok());
+        let outcome = E::walk_figures(&mut again, line, ours == trivsome::Line::Closed);
+        let answers = (E::walk(&mut proved, line, ours).is_ok(), second.walk_of::<E>(line, theirs).is_ok());
         let figures = (
             [proved.accepted, proved.refused, proved.skipped, proved.waiting],
             [second.accepted, second.refused, second.skipped, second.waiting],
@@ -155,7 +164,7 @@ fn answer_of(answer: trivsome::Answer) -> u64 {
     }
 }
 
-impl fmt::Display for Walks {
+impl<E> fmt::Display for Walks<E> {
     fn fmt(&self, f: &mut fmt::Formatter) -> fmt::Result {
         let [moved, refused] = self.tallies;
         let [length, header, body] = self.bad_halves;

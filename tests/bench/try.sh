@@ -39,6 +39,8 @@ part board 'taken, any of 256 stocks' 'the same, any pairs' 'the same, the trade
 part capture '504 bytes, until it is full' '504 bytes, the first' '1 byte, until it is full' '1 byte, the first' \
     'looked over, full of 504 bytes' 'looked over, full of 1 byte' 'looked over, fresh' 'read at a place, full'
 part walk 'six, 9 pairs, 2 MB'
+part 'index values' 'I060 of 29 bytes, read' 'I064 of 34 bytes, read' 'I060 of 29 bytes, the answer alone' 'I060 of 29 bytes, written' \
+    'I064 of 34 bytes, written' 'I060 of 29 bytes, walked'
 part digits 'a byte, by the call' 'a byte, by the table taken once' 'the table filled'
 bench/run.py nonsense >"$work/said" 2>&1
 [ $? -eq 2 ] || differs "an unknown part is not refused"

@@ -55,6 +55,7 @@ cc -std=c11 -pedantic -Wall -Wextra -Werror -fsyntax-only -x c "$header" || diff
 tried cc -std=c11 tests/library/calls.c
 tried cc -std=c11 tests/library/bad_halves.c
 tried cc -std=c11 tests/library/captures.c
+tried cc -std=c11 tests/library/index.c
 compiled steps cc -std=c11 tests/library/steps.c
 "$work/steps"
 case $? in

@@ -23,6 +23,11 @@ static void nothing(uint8_t *pointer)
     HOLDS(trivsome_write_prices(&prices, pointer, 0) == 14 && trivsome_write_halt(&halt, pointer, 0) == 14);
     memcpy(prices.slots[0].code, "2330  ", 6), prices.count = 1;
     HOLDS(trivsome_write_prices(&prices, pointer, 0) == 15);
+    trivsome_index index = {};
+    HOLDS(trivsome_derivatives_read(pointer, 0, 0) == 2 && trivsome_read_index(pointer, 0, 0, &index) == 2);
+    HOLDS(trivsome_derivatives_move(pointer, 0, 0, true) == 2 && trivsome_derivatives_move(pointer, 0, 0, false) == 2);
+    HOLDS(trivsome_derivatives_walk_line(&tally, pointer, 0, true) == 0 && tally.skipped == 0);
+    HOLDS(trivsome_write_index(&index, pointer, 0) == 14);
     Bytes frame(14);
     HOLDS(trivsome_write_notice_numbers(1, 9, pointer, 0, frame.data(), frame.size()) == outcome(0, 0, 14, 0));
     HOLDS(frame == Bytes(NOTICE, NOTICE + 14));

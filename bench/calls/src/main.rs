@@ -1,11 +1,12 @@
 //! Times the calls of the proved library beside the second program's: reading, also of frames with a bad digit, writing, arrivals,
-//! a board, a capture, the walk of a line and packed digits. Prints for each a line of words parted by tabs: part, name, bytes, proved and second
+//! a board, a capture, the walk of a line, index values and packed digits. Prints for each a line of words parted by tabs: part, name, bytes, proved and second
 //! nanoseconds.
 
 mod arrivals;
 mod board;
 mod capture;
 mod digits;
+mod index;
 mod kinds;
 mod reading;
 mod refused;
@@ -39,6 +40,7 @@ fn run(effort: Effort) -> Result<(), String> {
     board::board(effort)?.iter().for_each(print);
     capture::capture(effort)?.iter().for_each(print);
     print(&walking::walking(effort, &kinds)?);
+    index::index(effort)?.iter().for_each(print);
     digits::digits(effort)?.iter().for_each(print);
     Ok(())
 }

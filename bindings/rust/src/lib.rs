@@ -1,6 +1,7 @@
 //! The proved library for programs in Rust. Every call takes any bytes and any numbers, and answers by the rules' numbers
 //! (docs/RULES.md): frames at any place of a line are read and messages written, lines walked, frame numbers recorded, the last
-//! quotes of stocks kept, lines kept through a power loss, and packed digits read.
+//! quotes of stocks kept, lines kept through a power loss, and packed digits read. A line is one of the stock exchange, unless a
+//! call names the derivatives exchange.
 //!
 //! ```
 //! # let bytes = [0x1B, 0x00, 0x14, 0x01, 0x05, 0x01, 0x00, 0x00, 0x00, 0x01, 0x09, 0x19, 0x0D, 0x0A];
@@ -32,6 +33,17 @@
 //! let why = trivsome::read(&notice, 0).answer();
 //! assert_eq!((why.number(), why.length(), why.bad_half()), (11, 14, Some(21)));
 //! assert_eq!(why.to_string(), "11: a bad digit in the body, at half 21 (byte 10, low)");
+//! ```
+//!
+//! Index values of the derivatives exchange are in thousandths; its lines have calls of their own:
+//!
+//! ```
+//! # let bytes = [0x41, 0x42];
+//! for step in trivsome::Moves::derivatives(&bytes, trivsome::Line::Closed) {
+//!     if let Ok((frame, index)) = trivsome::read_index(&bytes, step.at) {
+//!         println!("{} {} {}", frame.seq, String::from_utf8_lossy(index.contract()), index.value);
+//!     }
+//! }
 //! ```
 //!
 //! A board keeps what the quotes of each stock said last, and its sides through quotes that send only their trade:
@@ -87,6 +99,8 @@ mod digits;
 #[forbid(unsafe_code)]
 mod halt;
 #[forbid(unsafe_code)]
+mod index;
+#[forbid(unsafe_code)]
 mod ledger;
 #[forbid(unsafe_code)]
 mod message;
@@ -107,11 +121,12 @@ pub use board::{Board, NotTaken, Row, Rows};
 pub use capture::{BadBlock, Capture, NotAppended, Payloads};
 pub use digits::{digit_table, two_digits, BAD_DIGIT};
 pub use halt::{read_halt, read_halt_into, write_halt, Event, Halt, Resume, Sending};
+pub use index::{read_derivatives, read_index, read_index_into, write_index, Index};
 pub use ledger::{Arrival, Ledger, LedgerRefusal, Run};
 pub use message::{read_message, write, Message};
 pub use notice::{read_notice, read_notice_into, write_notice, write_text, Notice};
 pub use outcome::{read, Answer, Frame, NotRead, NotWritten, Outcome};
 pub use prices::{read_prices, read_prices_into, write_prices, Amounts, Prices, Slot};
 pub use quote::{read_quote, read_quote_into, write_quote, Quote};
-pub use units::{Code, Pair, Price, Quantity, LONG_NINES, SHORT_NINES};
+pub use units::{Code, Pair, Price, Quantity, Thousandths, LONG_NINES, SHORT_NINES};
 pub use walking::{Line, Move, Moves, Tally, TooMuch};

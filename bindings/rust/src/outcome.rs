@@ -13,7 +13,7 @@ pub struct Outcome(u64);
 /// An accepted frame.
 #[derive(Clone, Copy, Debug, PartialEq, Eq, Hash)]
 pub struct Frame {
-    /// 5, 6, 12 or 19.
+    /// 5, 6, 12 or 19; on the derivatives exchange 60 or 64.
     pub format: u8,
     /// Its number.
     pub seq: u32,
@@ -217,7 +217,7 @@ impl fmt::Display for Answer {
             4 => "the last two bytes are not 0D 0A",
             5 => "another check byte",
             6 => "a bad digit in the header",
-            7 => "another business or format",
+            7 => "another business or format, or another market or kind",
             8 => "another version",
             9 => "a length that the format does not have",
             10 => "a level count of 6 or 7, or levels where only the trade is sent",

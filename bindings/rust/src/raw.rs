@@ -13,6 +13,7 @@
 use std::mem::{offset_of, size_of};
 
 use crate::board::Row;
+use crate::index::Index;
 use crate::prices::Prices;
 use crate::quote::Quote;
 
@@ -83,6 +84,25 @@ mod calls {
             buffer: *mut u8,
             room: usize,
         ) -> u64;
+        pub fn trivsome_read_index_numbers(
+            line: *const u8,
+            length: usize,
+            at: usize,
+            contract: *mut [u8; 8],
+            bytes: *mut [u8; 4],
+            numbers: *mut [u32; 3],
+        ) -> u64;
+        pub fn trivsome_write_index_numbers(
+            seq: u32,
+            contract: *const [u8; 8],
+            bytes: *const [u8; 4],
+            numbers: *const [u32; 3],
+            buffer: *mut u8,
+            room: usize,
+        ) -> u64;
+        pub fn trivsome_derivatives_read(line: *const u8, length: usize, at: usize) -> u64;
+        pub fn trivsome_derivatives_move(line: *const u8, length: usize, at: usize, closed: bool) -> u64;
+        pub fn trivsome_derivatives_walk(tally: *mut [u64; 4], line: *const u8, length: usize, closed: bool) -> u64;
         pub fn trivsome_move(line: *const u8, length: usize, at: usize, closed: bool) -> u64;
         pub fn trivsome_walk(tally: *mut [u64; 4], line: *const u8, length: usize, closed: bool) -> u64;
         pub fn trivsome_clear(ends: *mut [u32; 129], floor: *mut u32, given_up: *mut u32);
@@ -144,7 +164,8 @@ mod calls {
 }
 
 // The fields of a quote and of a row stand as the numbers that are lent do: code, reveal, limit and status as nine bytes, then
-// total, trade, bids and asks as 23 numbers. The slots of prices are 60 bytes and 50 numbers.
+// total, trade, bids and asks as 23 numbers. The slots of prices are 60 bytes and 50 numbers. Of an index value market, kind,
+// length and status are four bytes, and sent, time and value three numbers.
 macro_rules! assert_stands {
     ($whole:ty) => {
         let (bytes, amounts) = (offset_of!($whole, code), offset_of!($whole, total));
@@ -163,6 +184,13 @@ const _: () = {
     assert_stands!(Row);
     assert!(size_of::<[crate::Pair; 5]>() == 40 && size_of::<[crate::Amounts; 10]>() == 200);
     assert!(size_of::<[crate::Code; 10]>() == 60);
+    assert!(
+        offset_of!(Index, time) == offset_of!(Index, sent) + 4
+            && offset_of!(Index, value) == offset_of!(Index, sent) + 8
+    );
+    assert!(offset_of!(Index, kind) == offset_of!(Index, market) + 1);
+    assert!(offset_of!(Index, length) == offset_of!(Index, market) + 2);
+    assert!(offset_of!(Index, status) == offset_of!(Index, market) + 3);
     assert!(offset_of!(crate::Pair, price) == 0 && offset_of!(crate::Amounts, total) == 16);
 };
 
@@ -248,6 +276,54 @@ pub fn write_prices(prices: &Prices, buffer: &mut [u8]) -> u64 {
     let (room, buffer) = (buffer.len(), buffer.as_mut_ptr());
     // SAFETY: ten codes are 60 bytes, and ten times five amounts 50 numbers, as asserted above.
     unsafe { calls::trivsome_write_prices_numbers(*seq, *count, codes.cast(), amounts.cast(), times, buffer, room) }
+}
+
+/// The answer at a place of a line of the derivatives exchange, alone.
+#[inline]
+pub fn derivatives_read(line: &[u8], at: usize) -> u64 {
+    // SAFETY: the line is lent for the call, with its length.
+    unsafe { calls::trivsome_derivatives_read(line.as_ptr(), line.len(), at) }
+}
+
+/// The answer, and an index value. Its own fields are lent; its number is in the outcome.
+#[inline]
+pub fn read_index(line: &[u8], at: usize, index: &mut Index) -> u64 {
+    let whole: *mut Index = index;
+    // SAFETY: the three parts lie in the index value that is lent, apart and laid out as is asserted above.
+    unsafe {
+        let contract = whole.byte_add(offset_of!(Index, contract)).cast();
+        let bytes = whole.byte_add(offset_of!(Index, market)).cast();
+        let numbers = whole.byte_add(offset_of!(Index, sent)).cast();
+        calls::trivsome_read_index_numbers(line.as_ptr(), line.len(), at, contract, bytes, numbers)
+    }
+}
+
+/// Writes an index value, whose own fields are lent: 0 with the length, 14 or 15.
+#[inline]
+pub fn write_index(index: &Index, buffer: &mut [u8]) -> u64 {
+    let whole: *const Index = index;
+    let (room, buffer) = (buffer.len(), buffer.as_mut_ptr());
+    // SAFETY: the three parts lie in the index value that is lent, laid out as is asserted above.
+    unsafe {
+        let contract = whole.byte_add(offset_of!(Index, contract)).cast();
+        let bytes = whole.byte_add(offset_of!(Index, market)).cast();
+        let numbers = whole.byte_add(offset_of!(Index, sent)).cast();
+        calls::trivsome_write_index_numbers(index.seq, contract, bytes, numbers, buffer, room)
+    }
+}
+
+/// The move at a place of a line of the derivatives exchange, 0 bytes long where the walk stops.
+#[inline]
+pub fn derivatives_move_at(line: &[u8], at: usize, closed: bool) -> u64 {
+    // SAFETY: the line is lent for the call, with its length.
+    unsafe { calls::trivsome_derivatives_move(line.as_ptr(), line.len(), at, closed) }
+}
+
+/// Walks a line of the derivatives exchange and moves a tally on: 0 or 16.
+#[inline]
+pub fn derivatives_walk(tally: &mut [u64; 4], line: &[u8], closed: bool) -> u64 {
+    // SAFETY: the line is lent with its length, the tally by a reference that nothing else holds.
+    unsafe { calls::trivsome_derivatives_walk(tally, line.as_ptr(), line.len(), closed) }
 }
 
 /// The move at a place of a line, 0 bytes long where the walk stops.

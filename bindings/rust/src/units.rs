@@ -1,4 +1,4 @@
-//! Prices, quantities, pairs of them, codes and the times that are all nines.
+//! Prices, quantities, pairs of them, index values, codes and the times that are all nines.
 
 use std::fmt;
 
@@ -11,6 +11,16 @@ pub struct Price(pub u32);
 #[derive(Clone, Copy, Debug, Default, PartialEq, Eq, PartialOrd, Ord, Hash)]
 #[repr(transparent)]
 pub struct Quantity(pub u32);
+
+/// An index value in thousandths, up to 99,999,999. It is shown with its three decimals, whatever precision is asked for.
+#[derive(Clone, Copy, Debug, Default, PartialEq, Eq, PartialOrd, Ord, Hash)]
+#[repr(transparent)]
+pub struct Thousandths(pub u32);
+
+impl Thousandths {
+    /// The largest value that a frame holds, 99,999.999.
+    pub const MOST: Thousandths = Thousandths(99_999_999);
+}
 
 /// A price with the quantity offered or traded at it.
 #[derive(Clone, Copy, Debug, Default, PartialEq, Eq, Hash)]
@@ -43,6 +53,12 @@ impl fmt::Display for Price {
 impl fmt::Display for Quantity {
     fn fmt(&self, f: &mut fmt::Formatter) -> fmt::Result {
         self.0.fmt(f)
+    }
+}
+
+impl fmt::Display for Thousandths {
+    fn fmt(&self, f: &mut fmt::Formatter) -> fmt::Result {
+        f.pad_integral(true, "", &format!("{}.{:03}", self.0 / 1_000, self.0 % 1_000))
     }
 }
 

@@ -32,9 +32,17 @@ pub struct Move {
     pub answer: Answer,
 }
 
+/// The exchange whose frames stand on a line.
+#[derive(Clone, Copy, Debug)]
+enum Exchange {
+    Stock,
+    Derivatives,
+}
+
 /// The moves over a line, from its first byte on. They end at the line's end or, on an open line, where the rest waits.
 #[derive(Clone, Debug)]
 pub struct Moves<'a> {
+    exchange: Exchange,
     line: &'a [u8],
     at: usize,
     closed: bool,
@@ -44,7 +52,13 @@ impl<'a> Moves<'a> {
     /// The moves over these bytes.
     #[inline]
     pub fn new(bytes: &'a [u8], line: Line) -> Moves<'a> {
-        Moves { line: bytes, at: 0, closed: line.is_closed() }
+        Moves { exchange: Exchange::Stock, line: bytes, at: 0, closed: line.is_closed() }
+    }
+
+    /// The moves over these bytes of the derivatives exchange.
+    #[inline]
+    pub fn derivatives(bytes: &'a [u8], line: Line) -> Moves<'a> {
+        Moves { exchange: Exchange::Derivatives, ..Moves::new(bytes, line) }
     }
 
     /// The bytes that no move has gone past yet; after the last move, those that wait.
@@ -59,7 +73,10 @@ impl Iterator for Moves<'_> {
 
     #[inline]
     fn next(&mut self) -> Option<Move> {
-        let outcome = Outcome::of(raw::move_at(self.line, self.at, self.closed));
+        let outcome = Outcome::of(match self.exchange {
+            Exchange::Stock => raw::move_at(self.line, self.at, self.closed),
+            Exchange::Derivatives => raw::derivatives_move_at(self.line, self.at, self.closed),
+        });
         let bytes = outcome.length();
         if bytes == 0 {
             return None;
@@ -104,8 +121,20 @@ impl Tally {
     /// Walks a line and moves the tally on: the first three figures grow, the waiting figure is replaced.
     #[inline]
     pub fn walk(&mut self, bytes: &[u8], line: Line) -> Result<(), TooMuch> {
+        self.moved_on(|figures| raw::walk(figures, bytes, line.is_closed()))
+    }
+
+    /// The same over a line of the derivatives exchange.
+    #[inline]
+    pub fn walk_derivatives(&mut self, bytes: &[u8], line: Line) -> Result<(), TooMuch> {
+        self.moved_on(|figures| raw::derivatives_walk(figures, bytes, line.is_closed()))
+    }
+
+    /// By a call on its four figures.
+    #[inline]
+    fn moved_on(&mut self, call: impl Fn(&mut [u64; 4]) -> u64) -> Result<(), TooMuch> {
         let mut figures = [self.accepted, self.refused, self.skipped, self.waiting];
-        let answer = raw::walk(&mut figures, bytes, line.is_closed());
+        let answer = call(&mut figures);
         let [accepted, refused, skipped, waiting] = figures;
         *self = Tally { accepted, refused, skipped, waiting };
         if answer == 0 {

@@ -4,9 +4,9 @@ use std::process::ExitCode;
 use std::time::{SystemTime, UNIX_EPOCH};
 
 const USAGE: &str = "calls [--seed N] [--frames M] [--forever]
-Makes lines of M frames (100,000) from a seed (1), as many arrivals and messages for boards, and payloads for captures, calls
-the proved library and the second program on them, on the good frames with a bad digit put into each, and on every packed byte,
-and compares what they answer and what they leave in lent memory. Ends with 1 at the first difference.
+Makes lines of M frames (100,000) of each exchange from a seed (1), as many arrivals and messages for boards, and payloads for
+captures, calls the proved library and the second program on them, on the good frames with a bad digit put into each, and on every
+packed byte, and compares what they answer and what they leave in lent memory. Ends with 1 at the first difference.
 --forever goes on with new seeds, the first from the clock, until it is stopped.";
 
 struct Wanted {

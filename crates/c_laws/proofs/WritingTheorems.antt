@@ -1,7 +1,7 @@
 -- The outcome of a writing tells the answer, for each of the four formats.
-use Prim.Native.Nat.{ℕ, _+_, _≤_, _<_}
-use mathlib.Core.Path.{_≡_, refl, _∙_}
-use mathlib.Core.Bool.{Bool, true, false, cond, _&&_}
+use Prim.Native.Nat.{ℕ, _+_, _≤_}
+use mathlib.Core.Path.{_≡_, refl}
+use mathlib.Core.Bool.{Bool, true, false, _&&_}
 use mathlib.Core.List.{List}
 use native.Mathlib.Omega.{arith}
 use lib.ListN.{length}
@@ -13,7 +13,7 @@ use Rattle.answers.specs.Answers.{writtenNumber}
 use Rattle.stock_frame.specs.Format.{around}
 use Rattle.stock_frame.specs.Codec.{Codec, legal, frameOf}
 use Rattle.stock_frame.specs.Writing.{writeAnswer}
-use Rattle.answers.specs.declared.Written.the-variants.{Done, Illegal, NoRoom}
+use Rattle.answers.specs.declared.Written.the-variants.{Done}
 use Rattle.stock_frame.proofs.CodecLaws.{Lawful, legal-range, length-frameOf}
 use Rattle.stock_notices.specs.Notices.{fiveCodec, ShapedNotice}
 use Rattle.stock_notices.proofs.NoticeLaws.{notices-lawful}
@@ -26,11 +26,7 @@ use Rattle.stock_halts.specs.declared.Halt.{Halt}
 use Rattle.stock_halts.proofs.HaltLaws.{halts-lawful}
 use Rattle.c_outcomes.specs.Outcomes.{answerPart, lengthPart, writeOutcome}
 use Rattle.c_halts.specs.Halts.{tellsHalt, haltOutcome}
-use Rattle.c_laws.proofs.OutcomeTheorems.{outcome-parts}
-
--- a writing's outcome has its length, and answer 0
-pub write-told : (n : ℕ) → n < 65536 → (answerPart (writeOutcome (Done n)) ≡ 0) × (lengthPart (writeOutcome (Done n)) ≡ n)
-write-told n h = let o = outcome-parts 0 0 n 0 (omega arith) (omega arith) h in (o .0, o .2)
+use Rattle.c_outcomes.proofs.OutcomeLaws.{writing-told}
 
 -- the outcome of writing any message of a format has the answer's number, and where it is done the length, which is at most 1,024
 abbrev pub WritingTold : {M : Type 0} → Codec M → (M → Type 0) → Type 0
@@ -38,35 +34,26 @@ WritingTold {M} C Shaped =
     (m : M) → Shaped m → (buf : List ℕ) → let w = writeAnswer (legal C m) (frameOf C m) buf in
     (answerPart (writeOutcome w) ≡ writtenNumber w) × ((n : ℕ) → w ≡ Done n → (n ≤ 1024) × (lengthPart (writeOutcome w) ≡ n))
 
-writing-told : {M : Type 0} (C : Codec M) (Shaped : M → Type 0) → Lawful C Shaped → WritingTold C Shaped
-writing-told C Shaped law m s buf = go (legal C m) (leb (length (frameOf C m)) (length buf)) refl
+message-told : {M : Type 0} (C : Codec M) (Shaped : M → Type 0) → Lawful C Shaped → WritingTold C Shaped
+message-told C Shaped law m s buf = writing-told (legal C m) (frameOf C m) buf short
   where
     short : legal C m ≡ true → length (frameOf C m) ≤ 1024
     short l =
         let most = leb-true (around + size (C .cells m)) (C .form .most) (and-right (leb (C .form .least) (around + size (C .cells m))) _ (legal-range C m l)) in
         omega (arith, law .high, length-frameOf C Shaped law m s l, most)
 
-    go : (t u : Bool) → legal C m ≡ t → let w = cond t (cond u (Done (length (frameOf C m))) NoRoom) Illegal in
-        (answerPart (writeOutcome w) ≡ writtenNumber w) × ((n : ℕ) → w ≡ Done n → (n ≤ 1024) × (lengthPart (writeOutcome w) ≡ n))
-    go true true l =
-        let h = short l in
-        let o = write-told (length (frameOf C m)) (omega arith) in
-        (o .0, λ n e. let same : length (frameOf C m) ≡ n = cc in (omega arith, o .1 ∙ same))
-    go true false l = (refl, λ n e. let z : _≡_ {A = ℕ} 0 1 = cc in absurd (omega arith))
-    go false u l = (refl, λ n e. let z : _≡_ {A = ℕ} 0 1 = cc in absurd (omega arith))
-
 -- it holds of each of the four formats
 pub notice-written : WritingTold fiveCodec ShapedNotice
-notice-written = writing-told fiveCodec ShapedNotice notices-lawful
+notice-written = message-told fiveCodec ShapedNotice notices-lawful
 
 pub quote-written : WritingTold sixCodec ShapedQuote
-quote-written = writing-told sixCodec ShapedQuote quotes-lawful
+quote-written = message-told sixCodec ShapedQuote quotes-lawful
 
 pub prices-written : WritingTold twelveCodec ShapedPrices
-prices-written = writing-told twelveCodec ShapedPrices prices-lawful
+prices-written = message-told twelveCodec ShapedPrices prices-lawful
 
 pub halt-written : WritingTold nineteenCodec ShapedHalt
-halt-written = writing-told nineteenCodec ShapedHalt halts-lawful
+halt-written = message-told nineteenCodec ShapedHalt halts-lawful
 
 -- and of a halt that four numbers tell, or do not
 pub halt-numbers-written : (ns : List ℕ) (h : Halt) → ShapedHalt h → (buf : List ℕ)

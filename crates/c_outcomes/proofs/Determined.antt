@@ -13,6 +13,9 @@ use Rattle.c_outcomes.proofs.of_answer.Reads as of-answer-reads
 use Rattle.c_outcomes.proofs.of_move as of-move
 use Rattle.c_outcomes.proofs.of_move.Kinds as of-move-kinds
 use Rattle.c_outcomes.proofs.of_move.Reads as of-move-reads
+use Rattle.c_outcomes.proofs.of_step as of-step
+use Rattle.c_outcomes.proofs.of_step.Kinds as of-step-kinds
+use Rattle.c_outcomes.proofs.of_step.Reads as of-step-reads
 use Rattle.c_outcomes.proofs.of_written as of-written
 use Rattle.c_outcomes.proofs.of_written.Kinds as of-written-kinds
 use Rattle.c_outcomes.proofs.of_written.Reads as of-written-reads
@@ -28,6 +31,12 @@ pub determined-of-move : (κs : Lifetimes.Lfts 0) (a : World.ArgsD of-move.signa
     (s₁ s₂ : Clauses.AtExit (kinds.endedOf 0 of-move-kinds.ps of-move-kinds.r) κs) → of-move-reads.Post κs a r₁ s₁ → of-move-reads.Post κs a r₂ s₂
     → r₁ ≡ r₂
 determined-of-move κs a r₁ r₂ s₁ s₂ p q = p ∙ sym q
+
+-- what `of_step` gives
+pub determined-of-step : (κs : Lifetimes.Lfts 0) (a : World.ArgsD of-step.signature κs) (r₁ r₂ : World.ResD of-step.signature κs)
+    (s₁ s₂ : Clauses.AtExit (kinds.endedOf 0 of-step-kinds.ps of-step-kinds.r) κs) → of-step-reads.Post κs a r₁ s₁ → of-step-reads.Post κs a r₂ s₂
+    → r₁ ≡ r₂
+determined-of-step κs a r₁ r₂ s₁ s₂ p q = p ∙ sym q
 
 -- what `of_written` gives
 pub determined-of-written : (κs : Lifetimes.Lfts 0) (a : World.ArgsD of-written.signature κs) (r₁ r₂ : World.ResD of-written.signature κs)

@@ -2,4 +2,6 @@
 pub mod ListLaws
 pub mod LentLaws
 pub mod WriteLaws
+pub mod OutcomeLaws
+pub mod MoveLaws
 pub mod Determined

@@ -2,3 +2,4 @@
 pub mod Outcomes
 pub mod Lent
 pub mod Written
+pub mod Walking

@@ -2,9 +2,11 @@
 ghost use mathlib.Core.Path.{_≡_};
 ghost use Rattle.c_outcomes.specs.Outcomes.{outcome, placeNumber, readOutcome, pastOutcome, writeOutcome};
 ghost use Rattle.c_outcomes.specs.Lent.{isOf};
+ghost use Rattle.c_outcomes.specs.Walking.{moveOutcome};
 use answers::Answer;
 use answers::Written;
 use digits::halves::Place;
+use walk::moves::Step;
 
 // The answer in 8 bits, then the format in 8, the length in 16 and in 32 the sequence number, of a refusal a place.
 fn packed(answer: u8, format: u8, length: usize, seq: u32) -> u64
@@ -43,6 +45,19 @@ pub fn of_move(answer: Answer, bytes: u64) -> u64
         Answer::Accepted(f) => packed(0, f.format, bytes as usize, f.seq),
         Answer::NoFrame(n, p) => packed(n, 0, bytes as usize, place_number(p)),
         Answer::Refused(n, _, p) => packed(n, 0, bytes as usize, place_number(p)),
+    }
+}
+
+// Of a step of a walk: the bytes that a move goes past in the length's place, 0 where the walk stops.
+pub fn of_step(step: Step) -> u64
+    ensures { λ r. ⌜ r ≡ moveOutcome step ⌝ }
+{
+    match step {
+        Step::Moved(row) => {
+            let answer = row.answer;
+            of_move(answer, row.bytes)
+        }
+        Step::Stopped => of_answer(Answer::NoFrame(2, Place::None)),
     }
 }
 

@@ -5,6 +5,7 @@ mod board;
 mod capture;
 mod digits;
 mod frames;
+mod index;
 mod ledger;
 mod reading;
 mod units;

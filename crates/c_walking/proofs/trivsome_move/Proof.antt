@@ -1,6 +1,6 @@
 -- `trivsome_move` meets its contract.
 use mathlib.Core.Path.{ap, _∙_}
-use Rattle.c_walking.specs.Walking.{moveOutcome}
+use Rattle.c_outcomes.specs.Walking.{moveOutcome}
 use borrow.Author.Needs.{needs}
 use Rattle.c_walking.proofs.trivsome_move.Statement.{statement}
 use Rattle.c_walking.proofs.trivsome_move.Tie as tie
@@ -8,11 +8,11 @@ use Rattle.c_walking.proofs.trivsome_move.Tie as tie
 move-at-requires : tie.Need-move-at-requires
 move-at-requires c κs = search needs
 
-move-outcome-requires : tie.Need-move-outcome-requires
-move-outcome-requires c κs = search needs
+of-step-requires : tie.Need-of-step-requires
+of-step-requires c κs = search needs
 
 returns : tie.Need-returns
-returns c = c .move-outcome .ensures ∙ ap moveOutcome (c .before .move-at .ensures)
+returns c = c .of-step .ensures ∙ ap moveOutcome (c .before .move-at .ensures)
 
 pub trivsome-move-spec : {M : Type 1} → statement M
-trivsome-move-spec = tie.close (tie.spec move-at-requires move-outcome-requires returns)
+trivsome-move-spec = tie.close (tie.spec move-at-requires of-step-requires returns)

@@ -1,7 +1,7 @@
 -- `trivsome_walk` meets its contract.
 use mathlib.Core.Path.{ap}
 use Rattle.walk.specs.declared.tally.Tallied.{Tallied}
-use Rattle.c_walking.specs.Walking.{tallyNumbers}
+use Rattle.c_outcomes.specs.Walking.{tallyNumbers}
 use borrow.Author.Needs.{needs}
 use Rattle.c_walking.proofs.trivsome_walk.Statement.{statement}
 use Rattle.c_walking.proofs.trivsome_walk.Tie as tie

@@ -1,9 +1,9 @@
--- `move_outcome` meets its contract, case by case.
+-- `of_step` meets its contract, case by case.
 use mathlib.Core.Path.{sym, ap, _∙_}
-use Rattle.c_walking.specs.Walking.{moveOutcome}
+use Rattle.c_outcomes.specs.Walking.{moveOutcome}
 use borrow.Author.Needs.{needs}
-use Rattle.c_walking.proofs.move_outcome.Statement.{statement}
-use Rattle.c_walking.proofs.move_outcome.Tie as tie
+use Rattle.c_outcomes.proofs.of_step.Statement.{statement}
+use Rattle.c_outcomes.proofs.of_step.Tie as tie
 
 enum-known-step : tie.Need-enum-known-step
 enum-known-step c = search needs
@@ -23,7 +23,7 @@ returns c = c .of-move .ensures ∙ ap moveOutcome (sym (c .before .before .step
 returns-2 : tie.Need-returns-2
 returns-2 c = search needs
 
-pub move-outcome-spec : {M : Type 1} → statement M
-move-outcome-spec =
+pub of-step-spec : {M : Type 1} → statement M
+of-step-spec =
     tie.close
     (tie.spec enum-known-step of-move-requires enum-told of-answer-requires returns returns-2)

@@ -1,0 +1,3 @@
+-- The laws that the proofs cite, and the theorems that belong to no one function.
+pub mod Theorems
+pub mod Determined
