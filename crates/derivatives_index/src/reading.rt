@@ -6,6 +6,7 @@ ghost use lib.ListN.{length, take, replicate};
 ghost use mathlib.Core.List.{_++_};
 ghost use Rattle.digits.specs.declared.halves.Place.the-variants.{None};
 ghost use Rattle.layout.specs.Places.{firstBad};
+ghost use Rattle.codes_times.specs.Times.{codeRight};
 ghost use Rattle.derivatives_index.specs.Index.{indexReading, noIndex, cellsOf, bodyLength, room};
 use crate::index::Index;
 use crate::index::IndexReading;
@@ -71,6 +72,17 @@ fn contract_in(body: &[u8]) -> [u8; 8]
     ]
 }
 
+// Every byte of a body's contract is 32 to 126; of a short one and of a long one apart, so that no byte is counted.
+fn contract_right(body: &[u8]) -> bool
+    requires { ⌜ bodyLength (length (now body)) ≡ true ⌝ }
+    ensures { λ r. ⌜ r ≡ codeRight (take (length (now (body .entry)) - 9) (now (body .entry))) ⌝ }
+{
+    if body.len() == 12 {
+        return code_right(&body[..3]);
+    }
+    code_right(&body[..8])
+}
+
 // The body of a frame with this header.
 pub fn read(body: &[u8], head: Head) -> IndexReading
     ensures { λ r. ⌜ r ≡ indexReading head (now (body .entry)) ⌝ }
@@ -102,7 +114,7 @@ pub fn read(body: &[u8], head: Head) -> IndexReading
     if !is_time(h.first) {
         return refused(12, n);
     }
-    if !code_right(&body[..long]) {
+    if !contract_right(body) {
         return refused(13, n);
     }
     let status = body[n - 1];

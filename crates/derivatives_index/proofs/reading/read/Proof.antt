@@ -61,10 +61,10 @@ sent-at k = sym (k .before .is-time .ensures) ∙ not-false _ (k .if5 .left)
 time-at : (k : tie.Else6) → timeOfDay 2 (block (k .before .before .before .before) .first) ≡ true
 time-at k = sym (k .before .is-time2 .ensures) ∙ not-false _ (k .if6 .left)
 
-contract-at : (k : tie.Else7) → codeRight (take (length (bytes (k .before .before .before .before .before .before .before)) - 9) (bytes (k .before .before .before .before .before .before .before))) ≡ true
-contract-at k = sym (k .before .code-right .ensures) ∙ not-false _ (k .if7 .left)
+contract-at : (k : tie.Else7) → codeRight (take (length (bytes (k .before .before .before .before .before .before)) - 9) (bytes (k .before .before .before .before .before .before))) ≡ true
+contract-at k = sym (k .before .contract-right .ensures) ∙ not-false _ (k .if7 .left)
 
-status-at : (k : tie.Else8) → ltb (getD (bytes (k .before .before .before .before .before .before .before .before .before .before)) (length (bytes (k .before .before .before .before .before .before .before .before .before .before)) - 1) 0) (2 ^ free (head (k .before .before .before .before .before .before .before .before .before .before) .kind)) ≡ true
+status-at : (k : tie.Else8) → ltb (getD (bytes (k .before .before .before .before .before .before .before .before .before)) (length (bytes (k .before .before .before .before .before .before .before .before .before)) - 1) 0) (2 ^ free (head (k .before .before .before .before .before .before .before .before .before) .kind)) ≡ true
 status-at k = sym (k .before .is-status .ensures) ∙ not-false _ (k .if8 .left)
 
 is-known-requires : tie.Need-is-known-requires
@@ -163,35 +163,30 @@ returns-6 c =
     (sym (c .before .before .is-time2 .ensures) ∙ not-true _ (c .before .if6 .taken)))
     (c .refused5 .ensures)
 
-slice-aggregate-code-right : tie.Need-slice-aggregate-code-right
-slice-aggregate-code-right c =
-    let k = c .before .before .before .before .before in
-    sym (length-take-le (length (bytes k) - 9) (bytes k) (omega arith))
-
-code-right-requires : tie.Need-code-right-requires
-code-right-requires c κs = search needs
+contract-right-requires : tie.Need-contract-right-requires
+contract-right-requires c κs = lengthed (c .before .before .before .before)
 
 refused-requires-6 : tie.Need-refused-requires-6
 refused-requires-6 c κs = search needs
 
 returns-7 : tie.Need-returns-7
 returns-7 c =
-    let d = c .before .before .before .before in
+    let d = c .before .before .before in
     let s = d .before .before in
     let k = s .before .before in
     read-refused (head k) (bytes k) 13 (c .refused6 .result) (omega arith) refl
     (bad-contract (head k) (bytes k) (outlined k) (versioned k) (lengthed k) (block k) (told k) (good-at k) (sent-at s) (time-at d)
-    (sym (c .before .before .code-right .ensures) ∙ not-true _ (c .before .if7 .taken)))
+    (sym (c .before .before .contract-right .ensures) ∙ not-true _ (c .before .if7 .taken)))
     (c .refused6 .ensures)
 
 sub-status : tie.Need-sub-status
 sub-status c =
-    let k = c .before .before .before .before .before .before .before in
+    let k = c .before .before .before .before .before .before in
     omega (arith, two-lengths (length (bytes k)) (lengthed k))
 
 shared-slice-read-status : tie.Need-shared-slice-read-status
 shared-slice-read-status c =
-    let k = c .before .before .before .before .before .before .before .before in
+    let k = c .before .before .before .before .before .before .before in
     omega (arith, two-lengths (length (bytes k)) (lengthed k))
 
 is-status-requires : tie.Need-is-status-requires
@@ -203,7 +198,7 @@ refused-requires-7 c κs = search needs
 returns-8 : tie.Need-returns-8
 returns-8 c =
     let r = c .before .before .before .before in
-    let d = r .before .before .before in
+    let d = r .before .before in
     let s = d .before .before in
     let k = s .before .before in
     read-refused (head k) (bytes k) 13 (c .refused7 .result) (omega arith) refl
@@ -215,16 +210,16 @@ number-of-requires : tie.Need-number-of-requires
 number-of-requires c κs = search needs
 
 contract-in-requires : tie.Need-contract-in-requires
-contract-in-requires c κs = lengthed (c .before .before .before .before .before .before .before .before .before .before .before)
+contract-in-requires c κs = lengthed (c .before .before .before .before .before .before .before .before .before .before)
 
-add-t18 : tie.Need-add-t18
-add-t18 c = search needs
+add-t16 : tie.Need-add-t16
+add-t16 c = search needs
 
 returns-9 : tie.Need-returns-9
 returns-9 c =
     let u = c .before .before in
     let r = u .before .before .before in
-    let d = r .before .before .before in
+    let d = r .before .before in
     let s = d .before .before in
     let k = s .before .before in
     read-accepted (head k) (bytes k) (outlined k) (versioned k) (lengthed k) (block k) (told k) (good-at k) (sent-at s) (time-at d) (contract-at r) (status-at u)
@@ -255,8 +250,7 @@ read-spec =
     is-time-requires-2
     refused-requires-5
     returns-6
-    slice-aggregate-code-right
-    code-right-requires
+    contract-right-requires
     refused-requires-6
     returns-7
     sub-status
@@ -266,5 +260,5 @@ read-spec =
     returns-8
     number-of-requires
     contract-in-requires
-    add-t18
+    add-t16
     returns-9)
