@@ -49,12 +49,14 @@ quick_tests() {
 # once all is proved: the programs and the library as their users do, and the second program
 user_tests() {
     export TRIVSOME_EMULATED=yes # rt has just made the programs
-    programs="crates/stock_feed/|crates/stock_texts/|$(for main in crates/*/src/main.rt; do printf '%s/|' "${main%/src/main.rt}"; done)"
+    programs="crates/line_feed/|crates/stock_texts/|$(for main in crates/*/src/main.rt; do printf '%s/|' "${main%/src/main.rt}"; done)"
     test_on "${programs}trivsome|native/|include/|examples/|samples/|bindings/rust/Cargo|tests/trivsome/|tests/gaps/|tests/reference/" \
         "trivsome runs, and fails loudly" sh tests/trivsome/try.sh
     test_on "${programs}trivsome|samples/|tests/live/|tests/listing/|tests/messages/|tests/refusals/|tests/board/|tests/reference/" \
         "a line that stays open is shown as it comes" python3 tests/live/try.py
     test_on "${programs}trivsome|tests/live/|tests/reference/" "the test programs say what they cannot do" python3 tests/live/bounded.py
+    test_on "${programs}crates/derivatives_|trivsome|tests/derivatives/|tests/listing/|tests/messages/|tests/refusals/|tests/reference/" \
+        "a line of the derivatives exchange is told by its argument" python3 tests/derivatives/try.py
     test_on "${programs}trivsome|README.md|samples/|include/|examples/|tests/readme/|tests/messages/|tests/reference/" \
         "the lines of README work" python3 tests/readme/try.py
     test_on "${programs}crates/fletcher/|crates/capture|trivsome|native/|second/|samples/|tests/capture/|tests/reference/" \

@@ -56,6 +56,14 @@ def halt(code=b"2330  ", halted="091200", resumed="999999", state=b"I"):
     return code + packed(halted + resumed) + state
 
 
+def index(kind=b"5", contract=b"TXF", time="13295995", value="17234567", status=0, market=b"1", sent="13300025", seq="00000007",
+          version=None, body=None, length=None, check=None, end=b"\x0d\x0a"):
+    """A frame of the derivatives exchange; a body, length, check byte or end that is given stands in for the right one."""
+    body = contract + packed(time + value) + bytes([status]) if body is None else body
+    inner = market + kind + packed(sent + seq + (version or {b"8": "01"}.get(kind, "02")) + (length or f"{len(body):04}")) + body
+    return b"\x1b" + inner + bytes([xor(inner) if check is None else check]) + end
+
+
 def patched(data, at, byte):
     """The same bytes with another one at a place."""
     return data[:at] + bytes([byte]) + data[at + 1:]

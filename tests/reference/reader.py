@@ -1,11 +1,11 @@
-"""The reference reader: the rules of docs/RULES.md and the exchange's specification B.12.07 once more, in plain Python.
+"""The reference reader: the rules of docs/RULES.md and the exchanges' specifications once more, in plain Python.
 
 It shares nothing with the crates, nor with the second program. What a maker stores as a program's expected output is made with
 it, beside what each part of the line was made for, and both have to agree.
 """
 
 # ---------------------------------------------------------------------------------------------------------------------
-# The reading: the rows of "What a reading answers" in their order. An answer is (number, length, message); the length is
+# The reading of the stock exchange's frames: the rows of "What a reading answers" in their order. An answer is (number, length, message); the length is
 # None for 1 to 5, and the message is None unless the number is 0.
 
 ESC = 27
@@ -186,7 +186,11 @@ def place(data):
     answer, length, _ = read(data)
     if answer not in (3, 6, 11):
         return None
-    shown = {3: HEAD, 6: HEADER}.get(answer) or picture(data[:length])
+    return first_bad({3: HEAD, 6: HEADER}.get(answer) or picture(data[:length]), data)
+
+
+def first_bad(shown, data):
+    """The first half that is not what a picture has there, or None."""
     for at, (wanted, half) in enumerate(zip(shown, data.hex())):
         if wanted == "9" and half in "abcdef" or wanted == "0" and half != "0":
             return at
@@ -194,13 +198,73 @@ def place(data):
 
 
 # ---------------------------------------------------------------------------------------------------------------------
+# The derivatives exchange, as it was in 2015: index values, I060 and I064. The same answers in the same order; 10 is none of them.
+
+KINDS = {b"5": ("I060", 2, 1), b"8": ("I064", 1, 3)}  # kind: name, version, how many bits of the status are free
+
+
+def read_2015(data):
+    """What a reading says of the bytes from a place on a line of this exchange."""
+    if len(data) == 0:
+        return 2, None, None
+    if data[0] != ESC:
+        return 1, None, None
+    if len(data) < 14:
+        return 2, None, None
+    body = digits(data[12:14])
+    if body is None or body + 17 > 1024:
+        return 3, None, None
+    length = body + 17
+    if len(data) < length:
+        return 2, None, None
+    if data[length - 2:length] != b"\x0d\x0a":
+        return 4, None, None
+    if data[length - 3] != xor(data[1:length - 3]):
+        return 5, None, None
+    answer, message = read_index(data[:length])
+    return answer, length, message
+
+
+def read_index(whole):
+    """Rows 6 to 13, for a frame whose outline is whole."""
+    if digits(whole[3:12]) is None:
+        return 6, None
+    market, kind, body = whole[1:2], whole[2:3], whole[14:-3]
+    if market not in (b"1", b"4") or kind not in KINDS:
+        return 7, None
+    name, version, free = KINDS[kind]
+    if digits(whole[11:12]) != version:
+        return 8, None
+    if len(body) not in (12, 17):
+        return 9, None
+    contract, time, value, status = body[:-9], digits(body[-9:-5]), digits(body[-5:-1]), body[-1]
+    if None in (time, value):
+        return 11, None
+    sent = digits(whole[3:7])
+    if not time_of_day(sent, 2) or not time_of_day(time, 2):
+        return 12, None
+    if not printable(contract) or status >> free:
+        return 13, None
+    return 0, dict(format=name, seq=digits(whole[7:11]), market=market, sent=sent, contract=contract, time=time, value=value,
+                   status=status)
+
+
+def place_2015(data):
+    """Where the first bad digit is, as `place` says it of the other exchange."""
+    answer, length, _ = read_2015(data)
+    if answer not in (3, 6, 11):
+        return None
+    return first_bad({3: "xx" * 12 + "9999", 6: "xxxxxx" + "9" * 18}.get(answer) or "xx" * (length - 12) + "9" * 16, data)
+
+
+# ---------------------------------------------------------------------------------------------------------------------
 # The walk of a closed line.
 
-def walk(line):
-    """Every move over a closed line: place, answer, bytes, message."""
+def walk(line, reading=read):
+    """Every move over a closed line by an exchange's reading: place, answer, bytes, message."""
     at = 0
     while at < len(line):
-        answer, length, message = read(line[at:at + 1024])  # no frame is longer
+        answer, length, message = reading(line[at:at + 1024])  # no frame is longer
         step = 1 if length is None else length
         yield at, answer, step, message
         at += step

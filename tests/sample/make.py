@@ -1,10 +1,11 @@
 #!/usr/bin/env python3
-"""Makes samples/capture, a few seconds of a line for the first look: notices, one of them in Big5, quotes, a halt that is lifted,
+"""Makes two samples for the first look. samples/capture is a few seconds of a line: notices, one of them in Big5, quotes, a halt that is lifted,
 opening prices, noise between them, a quote whose check byte was damaged on the way, one whose price begins with a 1 where a 0 has to stand, a trade sent alone, beside which the stock's
 levels stay what they were, and numbers that never arrived. One code begins with a zero, which a reader that takes codes for numbers
-loses.
+loses. samples/derivatives is a line of the derivatives exchange: index values of both kinds, with contracts of three and of eight
+bytes, noise, one with a bad digit in its value, and one that was damaged on the way.
 
-make.py           writes the file
+make.py           writes the files
 make.py --check   compares instead, and exits 1 on a difference
 """
 
@@ -13,9 +14,10 @@ import sys
 
 sys.path.append(str(pathlib.Path(__file__).resolve().parents[1]))
 from reference import stored
-from reference.frames import frame, halt, notice, packed, quote, slot, table
+from reference.frames import frame, halt, index, notice, packed, patched, quote, slot, table
 
 SAMPLE = stored.ROOT / "samples" / "capture"
+DERIVATIVES = stored.ROOT / "samples" / "derivatives"
 BIG5 = "今日上午九時開始交易"  # trading has begun at nine this morning
 
 
@@ -44,10 +46,20 @@ def the_line():
     yield frame("06", quote(0x81, book(1330000, True, (0, 0)), code=b"0050  ", time="090006250000"), "00000009")
 
 
+def the_derivatives_line():
+    yield b"\x0d\x0a"
+    yield index()
+    yield index(b"8", b"2330    ", "08595999", "00598500", 5, b"4", "09000000", "99999999")
+    yield index(contract=b"TE ", time="13300095", value="0081A250", sent="13300125", seq="00000008")
+    yield patched(index(contract=b"TE ", time="13300095", value="00812500", sent="13300125", seq="00000009"), 22, 0x18)
+    yield index(b"8", b"TXF", "13300195", "17230000", 1, sent="13300225", seq="00000001")
+
+
 def main():
-    line = b"".join(the_line())
-    stored.keep({SAMPLE: line})
-    print(f"{len(line)} bytes")
+    for path, made in ((SAMPLE, the_line), (DERIVATIVES, the_derivatives_line)):
+        line = b"".join(made())
+        stored.keep({path: line})
+        print(f"{path.name}: {len(line)} bytes")
 
 
 if __name__ == "__main__":

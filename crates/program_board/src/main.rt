@@ -6,17 +6,17 @@ mod rows;
 
 ghost use mathlib.Core.Path.{_≡_};
 ghost use lib.ListN.{length};
+use line_feed::feed::Feed;
+use line_feed::feed::READ;
+use line_feed::feed::tell;
+use line_feed::frames::FramePull;
+use line_feed::frames::Frames;
+use line_feed::frames::next_frame;
+use line_feed::output::written;
 use messages::with_frame;
 use rows::put_rows;
 use stock_board_flat::CELLS;
 use stock_board_flat::ROWS;
-use stock_feed::feed::Feed;
-use stock_feed::feed::READ;
-use stock_feed::feed::tell;
-use stock_feed::frames::FramePull;
-use stock_feed::frames::Frames;
-use stock_feed::frames::next_frame;
-use stock_feed::output::written;
 use stock_texts::counts::put_refused;
 
 // Puts a board and how many messages it refused, and answers what failed, or 0.

@@ -1,8 +1,8 @@
 // The frames of format six as messages to a board.
 use answers::Answer;
+use line_feed::frames::Framed;
 use stock_board::BoardAnswer;
 use stock_board_flat::take;
-use stock_feed::frames::Framed;
 use stock_reading::reading::SIX;
 
 fn one_more(n: u64) -> u64 {

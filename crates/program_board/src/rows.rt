@@ -1,12 +1,12 @@
 // The board as text, a JSON object a line.
+use line_feed::feed::Feed;
+use line_feed::output::relieved;
 use printing::put_all;
 use stock_board::BoardAnswer;
 use stock_board::LastTrade;
 use stock_board::Row;
 use stock_board_flat::ROWS;
 use stock_board_flat::row_at;
-use stock_feed::feed::Feed;
-use stock_feed::output::relieved;
 use stock_quotes::no_pair;
 use stock_texts::quotes::put_marks;
 use stock_texts::quotes::put_sides;

@@ -4,7 +4,7 @@ use ledger::Arrival;
 use ledger::RunAt;
 use ledger_arrivals::arrive_lent;
 use ledger_give_up::give_up_lent;
-use stock_feed::frames::Framed;
+use line_feed::frames::Framed;
 use stock_reading::reading::SIX;
 
 // A day so far, beside the ends of its ledger.

@@ -11,14 +11,14 @@ use asked::Asked;
 use asked::asked_for;
 use ledger::Ledger;
 use libc::STDERR_FILENO;
+use line_feed::feed::Feed;
+use line_feed::feed::READ;
+use line_feed::feed::tell;
+use line_feed::frames::FramePull;
+use line_feed::frames::Frames;
+use line_feed::frames::next_frame;
+use line_feed::output::written;
 use report::put_report;
-use stock_feed::feed::Feed;
-use stock_feed::feed::READ;
-use stock_feed::feed::tell;
-use stock_feed::frames::FramePull;
-use stock_feed::frames::Frames;
-use stock_feed::frames::next_frame;
-use stock_feed::output::written;
 
 // What a whole line has come to: its feed, and the day.
 struct Heard {

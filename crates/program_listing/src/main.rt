@@ -1,16 +1,21 @@
-// Reads standard input as a closed line and prints its listing: a row for each frame, one for each run of skipped bytes, and
-// the total of accepted, refused and skipped bytes. Input of any length, in constant memory.
+// Reads standard input as a closed line and prints its listing, what became of every byte; with derivatives-2015 behind its name it reads a
+// line of the derivatives exchange. A row for each frame, one for each run of skipped bytes, and the total of accepted, refused and
+// skipped bytes. Input of any length, in constant memory.
 mod rows;
 
+use line_feed::asked::Asked;
+use line_feed::asked::asked_for;
+use line_feed::exchanges::Exchange;
+use line_feed::feed::ARGUMENT;
+use line_feed::feed::READ;
+use line_feed::feed::tell;
+use line_feed::output::written;
+use line_feed::rows::RowPull;
+use line_feed::rows::Rows;
+use line_feed::rows::next_row;
 use rows::put_header;
 use rows::put_row;
 use rows::put_total;
-use stock_feed::feed::READ;
-use stock_feed::feed::tell;
-use stock_feed::output::written;
-use stock_feed::rows::RowPull;
-use stock_feed::rows::Rows;
-use stock_feed::rows::next_row;
 use walk::rows::Row;
 use walk::tally::Tally;
 
@@ -21,9 +26,9 @@ struct Listing {
 }
 
 // With nothing but the header in the output buffer.
-fn begun(out: &mut [u8]) -> Listing {
+fn begun(out: &mut [u8], exchange: Exchange) -> Listing {
     let to = put_header(out, 0);
-    let mut rows = Rows::fresh();
+    let mut rows = Rows::fresh(exchange);
     rows.feed.to = to;
     let total = Tally::empty();
     Listing { rows, total }
@@ -33,7 +38,9 @@ fn begun(out: &mut [u8]) -> Listing {
 fn with_row(out: &mut [u8], total: Tally, rows: Rows, row: Row) -> Listing {
     let answer = row.answer;
     let total = total.counted(answer, row.bytes);
-    let to = put_row(out, rows.feed.to, row);
+    let feed = rows.feed;
+    let exchange = feed.exchange;
+    let to = put_row(out, rows.feed.to, exchange, row);
     let mut rows = rows;
     rows.feed.to = to;
     Listing { rows, total }
@@ -48,9 +55,9 @@ fn ended(out: &mut [u8], total: Tally, rows: Rows) -> u8 {
     feed.failure
 }
 
-// Puts the listing of a whole line, and answers what failed, or 0.
-fn put_line(buf: &mut [u8], out: &mut [u8]) -> u8 {
-    let mut l = begun(out);
+// Puts the listing of a whole line of an exchange, and answers what failed, or 0.
+fn put_line(buf: &mut [u8], out: &mut [u8], exchange: Exchange) -> u8 {
+    let mut l = begun(out, exchange);
     let mut turns = u64::MAX;
     while turns > 0 {
         let total = l.total;
@@ -71,9 +78,16 @@ fn put_line(buf: &mut [u8], out: &mut [u8]) -> u8 {
     READ
 }
 
-fn main() {
+fn list(exchange: Exchange) {
     let mut buf = io::large_buffer();
     let mut out = io::large_buffer();
-    let failure = put_line(&mut buf, &mut out);
+    let failure = put_line(&mut buf, &mut out, exchange);
     tell(b"listing", failure);
+}
+
+fn main() {
+    match asked_for() {
+        Asked::Line(exchange) => list(exchange),
+        Asked::Unknown => tell(b"listing", ARGUMENT),
+    }
 }

@@ -2,9 +2,9 @@
 use amounts::Price;
 use answers::Answer;
 use answers::Frame;
+use line_feed::frames::Framed;
 use printing::put;
 use printing::put_all;
-use stock_feed::frames::Framed;
 use stock_halts::Event;
 use stock_halts::Halt;
 use stock_halts::HaltReading;

@@ -1,6 +1,7 @@
 // The object of a refused frame, or of a run of skipped bytes.
 use crate::reasons::put_why;
 use digits::halves::Place;
+use line_feed::exchanges::Exchange;
 use printing::put_all;
 use printing::put_number;
 use stock_texts::counts::put_count;
@@ -36,7 +37,7 @@ fn put_place(out: &mut [u8], at: usize, place: Place) -> usize {
     }
 }
 
-fn put_row(out: &mut [u8], at: usize, row: Row, bytes: &[u8]) -> usize {
+fn put_row(out: &mut [u8], at: usize, exchange: Exchange, row: Row, bytes: &[u8]) -> usize {
     let answer = row.answer;
     let n = answer.number();
     let place = answer.place();
@@ -44,14 +45,15 @@ fn put_row(out: &mut [u8], at: usize, row: Row, bytes: &[u8]) -> usize {
     let at = put_place(out, at, place);
     let at = put_all(out, at, b",\"hex\":");
     let at = put_hex(out, at, bytes);
-    let at = put_why(out, at, n, place);
+    let at = put_why(out, at, exchange, n, place);
     put_all(out, at, b"}\n")
 }
 
-// The object of a row whose bytes stand from one place of a buffer to another.
+// The object of a row of an exchange's line, whose bytes stand from one place of a buffer to another.
 pub(crate) fn put_object(
     out: &mut [u8],
     at: usize,
+    exchange: Exchange,
     row: Row,
     buf: &[u8],
     from: usize,
@@ -60,7 +62,7 @@ pub(crate) fn put_object(
     let end = shown(from, to);
     if end <= buf.len() {
         if from <= end {
-            return put_row(out, at, row, &buf[from..end]);
+            return put_row(out, at, exchange, row, &buf[from..end]);
         }
     }
     at

@@ -1,18 +1,29 @@
-// Why a frame is refused or bytes are skipped, by the answer.
+// Why a frame is refused or bytes are skipped, by the answer; of the answers to a frame of the derivatives exchange `index.rt` tells.
+use crate::index::put_index_why;
+use crate::index::put_long_why;
 use digits::halves::Place;
+use line_feed::exchanges::Exchange;
 use printing::put;
 use printing::put_all;
 
+// A length whose digits are good is of no frame.
+fn put_range_why(out: &mut [u8], at: usize, exchange: Exchange) -> usize {
+    match exchange {
+        Exchange::Stock => put_all(out, at, b"the length is below 14 or above 1024"),
+        Exchange::Derivatives => put_long_why(out, at),
+    }
+}
+
 // Of the answer 3: the digits are bad, or the number is.
-fn put_length_why(out: &mut [u8], at: usize, place: Place) -> usize {
+fn put_length_why(out: &mut [u8], at: usize, exchange: Exchange, place: Place) -> usize {
     match place {
-        Place::None => put_all(out, at, b"the length is below 14 or above 1024"),
+        Place::None => put_range_why(out, at, exchange),
         Place::Half(_) => put_all(out, at, b"the length has a bad digit"),
     }
 }
 
 // Of the answers 1 to 5.
-fn put_skipped_why(out: &mut [u8], at: usize, n: u8, place: Place) -> usize {
+fn put_skipped_why(out: &mut [u8], at: usize, exchange: Exchange, n: u8, place: Place) -> usize {
     if n == 1 {
         return put_all(out, at, b"no frame begins here: the first byte is not 1B");
     }
@@ -20,7 +31,7 @@ fn put_skipped_why(out: &mut [u8], at: usize, n: u8, place: Place) -> usize {
         return put_all(out, at, b"the line ends before this frame does");
     }
     if n == 3 {
-        return put_length_why(out, at, place);
+        return put_length_why(out, at, exchange, place);
     }
     if n == 4 {
         return put_all(
@@ -58,6 +69,11 @@ fn put_header_why(out: &mut [u8], at: usize, n: u8) -> usize {
     )
 }
 
+// Of the answer 11.
+pub(crate) fn put_digit_why(out: &mut [u8], at: usize) -> usize {
+    put_all(out, at, b"a packed field of the body has a bad digit")
+}
+
 // Of the answers 10 to 13, of which the body tells.
 fn put_body_why(out: &mut [u8], at: usize, n: u8) -> usize {
     if n == 10 {
@@ -68,7 +84,7 @@ fn put_body_why(out: &mut [u8], at: usize, n: u8) -> usize {
         );
     }
     if n == 11 {
-        return put_all(out, at, b"a packed field of the body has a bad digit");
+        return put_digit_why(out, at);
     }
     if n == 12 {
         return put_all(out, at, b"a time breaks its rule");
@@ -76,19 +92,27 @@ fn put_body_why(out: &mut [u8], at: usize, n: u8) -> usize {
     put_all(out, at, b"another field breaks its rule")
 }
 
-fn put_words(out: &mut [u8], at: usize, n: u8, place: Place) -> usize {
-    if n <= 5 {
-        return put_skipped_why(out, at, n, place);
-    }
+// Of a frame of the stock exchange.
+fn put_stock_why(out: &mut [u8], at: usize, n: u8) -> usize {
     if n <= 9 {
         return put_header_why(out, at, n);
     }
     put_body_why(out, at, n)
 }
 
+fn put_words(out: &mut [u8], at: usize, exchange: Exchange, n: u8, place: Place) -> usize {
+    if n <= 5 {
+        return put_skipped_why(out, at, exchange, n, place);
+    }
+    match exchange {
+        Exchange::Stock => put_stock_why(out, at, n),
+        Exchange::Derivatives => put_index_why(out, at, n),
+    }
+}
+
 // The words behind their key.
-pub(crate) fn put_why(out: &mut [u8], at: usize, n: u8, place: Place) -> usize {
+pub(crate) fn put_why(out: &mut [u8], at: usize, exchange: Exchange, n: u8, place: Place) -> usize {
     let at = put_all(out, at, b",\"why\":\"");
-    let at = put_words(out, at, n, place);
+    let at = put_words(out, at, exchange, n, place);
     put(out, at, b'"')
 }

@@ -1,12 +1,13 @@
 // Skipped bytes next to each other, joined as the listing joins them: the first one's place and reason.
 use crate::objects::put_object;
 use crate::objects::shown;
+use line_feed::exchanges::Exchange;
+use line_feed::feed::FULL;
+use line_feed::moves::Moved;
+use line_feed::moves::Moves;
+use line_feed::output::failed;
+use line_feed::output::written;
 use printing::put_all;
-use stock_feed::feed::FULL;
-use stock_feed::moves::Moved;
-use stock_feed::moves::Moves;
-use stock_feed::output::failed;
-use stock_feed::output::written;
 use walk::rows::Kept;
 use walk::rows::Row;
 use walk::rows::Told;
@@ -24,9 +25,9 @@ pub(crate) struct Walked {
 }
 
 impl Walked {
-    // At a line's beginning.
-    pub(crate) fn fresh() -> Walked {
-        let moves = Moves::fresh();
+    // At the beginning of a line of an exchange.
+    pub(crate) fn fresh(exchange: Exchange) -> Walked {
+        let moves = Moves::fresh(exchange);
         let kept = Kept::fresh();
         let run = Run { kept, held: 0 };
         Walked { moves, run }
@@ -46,12 +47,19 @@ fn hold(first: &mut [u8], held: usize, buf: &[u8], moved: Moved) -> usize {
 }
 
 // The object of a frame, if it is refused.
-fn put_frame(out: &mut [u8], at: usize, buf: &[u8], row: Row, moved: Moved) -> usize {
+fn put_frame(
+    out: &mut [u8],
+    at: usize,
+    exchange: Exchange,
+    buf: &[u8],
+    row: Row,
+    moved: Moved,
+) -> usize {
     let answer = row.answer;
     if answer.number() == 0 {
         return at;
     }
-    put_object(out, at, row, buf, moved.from, moved.to)
+    put_object(out, at, exchange, row, buf, moved.from, moved.to)
 }
 
 // Behind a frame, with the text up to a place.
@@ -81,6 +89,8 @@ pub(crate) fn with_move(
     moved: Moved,
 ) -> Walked {
     let kept = run.kept;
+    let feed = moves.feed;
+    let exchange = feed.exchange;
     let row = moved.row;
     let answer = row.answer;
     match kept.told(answer, row.bytes) {
@@ -90,12 +100,12 @@ pub(crate) fn with_move(
             Walked { moves, run }
         }
         Told::One(row, kept) => {
-            let to = put_frame(out, moves.feed.to, buf, row, moved);
+            let to = put_frame(out, moves.feed.to, exchange, buf, row, moved);
             behind_frame(moves, to, kept)
         }
         Told::Two(skipped, row, kept) => {
-            let to = put_object(out, moves.feed.to, skipped, first, 0, run.held);
-            let to = put_frame(out, to, buf, row, moved);
+            let to = put_object(out, moves.feed.to, exchange, skipped, first, 0, run.held);
+            let to = put_frame(out, to, exchange, buf, row, moved);
             behind_frame(moves, to, kept)
         }
         Told::Full => given_up(out, moves, run),
@@ -103,19 +113,20 @@ pub(crate) fn with_move(
 }
 
 // The object of the skipped bytes at a line's end, if there are any.
-fn put_last(out: &mut [u8], at: usize, first: &[u8], run: Run) -> usize {
+fn put_last(out: &mut [u8], at: usize, exchange: Exchange, first: &[u8], run: Run) -> usize {
     let kept = run.kept;
     let skipped = kept.skipped;
     if skipped.bytes == 0 {
         return at;
     }
-    put_object(out, at, skipped, first, 0, run.held)
+    put_object(out, at, exchange, skipped, first, 0, run.held)
 }
 
 // With the last bytes, all written; what failed, or 0.
 pub(crate) fn ended(out: &mut [u8], first: &[u8], run: Run, moves: Moves) -> u8 {
     let mut feed = moves.feed;
-    let to = put_last(out, feed.to, first, run);
+    let exchange = feed.exchange;
+    let to = put_last(out, feed.to, exchange, first, run);
     feed.to = to;
     let feed = written(out, feed);
     feed.failure

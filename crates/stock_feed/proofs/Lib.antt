@@ -1,2 +1,0 @@
--- The theorems that belong to no one function.
-pub mod Determined

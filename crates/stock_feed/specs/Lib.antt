@@ -1,2 +1,0 @@
--- What a program holds of a line that it reads.
-pub mod Beginning
