@@ -48,6 +48,7 @@ version f = getD (front header f) 4 0
 abbrev pub headOf : List ℕ → Head
 headOf f = record { market = market f; kind = kind f; sent = sent f; seq = sequence f; version = version f; length = length f }
 
+-- what the checks up to the header's digits say: a whole outline with its header, or the answer of the first that fails
 unfoldable pub outlineOf : List ℕ → Outline
 outlineOf t =
     let n = firstFail (outlineChecks header t) in

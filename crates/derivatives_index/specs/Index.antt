@@ -4,7 +4,7 @@ use mathlib.Core.Path.{_≡_}
 use mathlib.Core.Bool.{Bool, cond, _&&_, _||_}
 use mathlib.Core.List.{List, [], _∷_, _++_}
 use lib.ListN.{length, getD, take, drop, replicate}
-use lib.Dec.{eqb, leb, ltb}
+use lib.Dec.{eqb, ltb}
 use Rattle.digits.specs.declared.halves.Place.{Place}
 use Rattle.digits.specs.declared.halves.Place.the-variants.{None}
 use Rattle.layout.specs.Cells.{Cell, raw, digits, goodCells, decode}
@@ -13,7 +13,6 @@ use Rattle.layout.specs.Checks.{Check, must, firstFail}
 use Rattle.codes_times.specs.Times.{timeOfDay, codeRight, every}
 use Rattle.amounts.specs.Amounts.{asThousandths}
 use Rattle.answers.specs.Answers.{named}
-use Rattle.answers.specs.declared.Answer.{Answer}
 use Rattle.frame.specs.Header.{start, around}
 use Rattle.frame.specs.Codec.{Codec}
 use Rattle.derivatives_frame.specs.Outline.{header}
@@ -156,6 +155,7 @@ noIndex = record { market = 0; kind = 0; sent = 0; seq = 0; contract = replicate
 abbrev pub bodyPlace : List ℕ → ℕ → Place
 bodyPlace b n = cond (eqb n 11) (firstBad (cellsOf b) (2 * start header) b) None
 
+-- the answer of the first check that fails, or acceptance with the message
 unfoldable pub indexReading : Head → List ℕ → IndexReading
 indexReading h b =
     let n = firstFail (indexChecks (h .market) (h .kind) (h .sent) (h .version) b) in

@@ -6,12 +6,12 @@ use mathlib.Core.List.{List, [], _∷_}
 use mathlib.Core.Logic.{_⊎_, inl, inr}
 use native.Mathlib.Omega.{arith}
 use lib.Dec.{eqb, leb}
-use borrow.Author.Tests.{eqb-true, eqb-false, leb-true}
+use borrow.Author.Tests.{eqb-true, eqb-false, eq-eqb, ne-eqb, leb-true, le-leb, lt-leb}
 use Rattle.digits.specs.declared.halves.Place.{Place}
 use Rattle.digits.specs.declared.halves.Place.the-variants.{None}
 use Rattle.digits.proofs.Bools.{and-left, and-right}
 use Rattle.layout.specs.Checks.{Check, must, firstFail}
-use Rattle.answers.specs.Answers.{named, answerNumber, answerLength, answerPlace}
+use Rattle.answers.specs.Answers.{named, answerNumber, answerLength, answerPlace, answerValues, placeValues}
 use Rattle.answers.specs.declared.Frame.{Frame}
 use Rattle.answers.specs.declared.Answer.the-variants.{Accepted, NoFrame, Refused}
 use Rattle.exchange.specs.Reading.{atLeast, atMost}
@@ -45,6 +45,16 @@ module _ (n : ℕ) (f : Frame) (p : Place) where
       go true y e q = refl
       go false true e q = absurd (h (omega (arith, eqb-false n 0 e)) (leb-true n 5 q))
       go false false e q = refl
+
+  -- the values beside it
+  pub values-accepted : n ≡ 0 → answerValues (named n f p) ≡ f .format ∷ f .seq ∷ f .length ∷ []
+  values-accepted e = rw (eq-eqb n 0 e)
+
+  pub values-early : 1 ≤ n → n ≤ 5 → answerValues (named n f p) ≡ placeValues p
+  values-early l h = rw (ne-eqb n 0 (λ e. omega (arith, e, l)), le-leb n 5 h)
+
+  pub values-refused : 6 ≤ n → answerValues (named n f p) ≡ f .length ∷ placeValues p
+  values-refused l = rw (ne-eqb n 0 (λ e. omega (arith, e, l)), lt-leb n 5 (omega arith))
 
   pub place-named : (n ≡ 0 → p ≡ None) → answerPlace (named n f p) ≡ p
   place-named h = go (eqb n 0) (leb n 5) refl
