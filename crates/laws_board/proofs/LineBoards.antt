@@ -6,7 +6,7 @@ use mathlib.Core.List.{List, [], _∷_}
 use lib.ListN.{drop}
 use lib.Dec.{eqb}
 use borrow.Author.Tests.{eqb-true}
-use Rattle.walk.specs.Walk.{Move, walk}
+use Rattle.walk.specs.Walk.{Move, walk, Each}
 use Rattle.answers.specs.declared.Frame.{Frame}
 use Rattle.answers.specs.declared.Answer.{Answer}
 use Rattle.answers.specs.declared.Answer.the-variants.{Accepted, NoFrame, Refused}
@@ -20,9 +20,7 @@ use Rattle.stock_reading.proofs.Trips.{trips-six}
 use Rattle.stock_notices.specs.Notices.{fiveCodec, noNotice}
 use Rattle.stock_prices.specs.Prices.{twelveCodec, noPrices}
 use Rattle.stock_halts.specs.Halts.{nineteenCodec, noHalt}
-use Rattle.walk.proofs.FigureLaws.{Each}
-use Rattle.stock_lines.specs.Lines.{Message, none, notice, quote, prices, halt, messageIn, longest, Saying, sayings}
-use Rattle.stock_lines.proofs.LineLaws.{sound-sayings}
+use Rattle.stock_lines.specs.Lines.{Message, none, notice, quote, prices, halt, messageIn, Saying, sayings}
 use Rattle.stock_lines.proofs.LineTheorems.{line-says}
 use Rattle.stock_board.specs.Board.{clearBoard}
 use Rattle.stock_board.specs.declared.Row.{Row}
@@ -76,7 +74,7 @@ module _ (P : Quote → Type 0) where
       go (Refused n l p) e = tt
 
   module _ (line : List ℕ) (read : (at : ℕ) (m : Quote) → Reads sixCodec (drop at line) m → P m) where
-    all-in : (vs : List (Move Saying)) (ms : List Quote) → Each sayings longest sound-sayings (λ m. m .said ≡ sayings .says (drop (m .at) line)) vs → AllOf P ms → AllOf P (quotesIn vs ms)
+    all-in : (vs : List (Move Saying)) (ms : List Quote) → Each (λ (m : Move Saying). m .said ≡ sayings .says (drop (m .at) line)) vs → AllOf P ms → AllOf P (quotesIn vs ms)
     all-in [] ms h a = a
     all-in (v ∷ vs) ms h a = all-in vs (withMessage (v .said .message) ms) (h .1) (with (v .said .message) (subst Of (sym (ap (λ (s : Saying). s .message) (h .0))) (message-of (drop (v .at) line) (read (v .at)))))
       where
@@ -88,7 +86,7 @@ module _ (P : Quote → Type 0) where
         with (halt m) p = a
 
     all-accepted : (closed : Bool) → AllOf P (quotesOf closed line)
-    all-accepted closed = all-in (walk sayings closed line) [] (line-says closed line) tt
+    all-accepted closed = all-in (walk sayings closed line) [] (line-says .in-place closed line) tt
 
 -- ---- a quote that was read could be written; off a line of bytes it is as memory holds it
 all-legal : (closed : Bool) (line : List ℕ) → AllOf (λ m. legal sixCodec m ≡ true) (quotesOf closed line)

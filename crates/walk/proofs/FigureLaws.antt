@@ -8,7 +8,7 @@ use lib.ListN.{length, drop, length-drop}
 use lib.Seq.{drop-drop}
 use lib.Dec.{eqb, leb}
 use borrow.Author.Tests.{eqb-true, leb-true}
-use Rattle.walk.specs.Walk.{Reading, Move, taken, stops, walkFrom, walk, restOf}
+use Rattle.walk.specs.Walk.{Reading, Move, taken, stops, walkFrom, walk, restOf, Each}
 use Rattle.walk.specs.Sound.{Sound}
 use Rattle.walk.specs.Tally.{isAccepted, isRefused, isSkipped, bytesOf, tallyOf}
 use Rattle.walk.proofs.WalkLaws.{front, step, behind, takes-within, walk-stops, walk-moves, walk-induct}
@@ -53,11 +53,6 @@ module _ {A : Type 0} (R : Reading A) (longest : ℕ) (S : Sound R longest) wher
   figures-add-up c line = adds-up c 0 line
 
   -- ---- each move
-  -- a property of every move
-  abbrev pub Each : (Move A → Type 0) → List (Move A) → Type 0
-  Each P [] = Unit {0}
-  Each P (m ∷ ms) = P m × Each P ms
-
   each-map : (P Q : Move A → Type 0) → ((m : Move A) → P m → Q m) → (ms : List (Move A)) → Each P ms → Each Q ms
   each-map P Q f [] h = tt
   each-map P Q f (m ∷ ms) h = (f m (h .0), each-map P Q f ms (h .1))

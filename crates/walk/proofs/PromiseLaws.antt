@@ -11,7 +11,7 @@ use Rattle.walk.specs.Sound.{Sound}
 use Rattle.walk.specs.Promises.{LineSays}
 use Rattle.walk.proofs.ToldSteps.{next-sixteen-exactly}
 use Rattle.walk.proofs.MoreLaws.{walk-more, rest-short, rest-closed}
-use Rattle.walk.proofs.FigureLaws.{figures-add-up}
+use Rattle.walk.proofs.FigureLaws.{figures-add-up, walk-says}
 use Rattle.walk.proofs.RowLaws.{pieces-are-rows}
 use Rattle.walk.proofs.MapLaws.{walk-map}
 use Rattle.walk.proofs.ListedLaws.{calls-are-rows}
@@ -24,6 +24,7 @@ module _ {S : Type 0} (says : List ℕ → Answer) (sayings : Reading S) (answer
   pub line-says : LineSays says sayings answerIn longest
   line-says = record {
     adds-up = figures-add-up (answering says) longest sound-answers;
+    in-place = walk-says sayings longest sound-sayings;
     step-number = steps.step-number says;
     step-values = steps.step-values says;
     sixteen-exactly = λ closed kept at line. next-sixteen-exactly (walkFrom (answering says) closed (kept .at) (drop at line)) kept at;

@@ -7,7 +7,7 @@ use mathlib.Core.List.{List, [], _∷_, _++_, map, flatten}
 use lib.ListN.{length, drop}
 use Rattle.answers.specs.Answers.{answerNumber, answerValues}
 use Rattle.answers.specs.declared.Answer.{Answer}
-use Rattle.walk.specs.Walk.{Reading, Move, taken, stops, walk, walkFrom, restOf}
+use Rattle.walk.specs.Walk.{Reading, Move, taken, stops, walk, walkFrom, restOf, Each}
 use Rattle.walk.specs.Answers.{answering}
 use Rattle.walk.specs.Tally.{largest, tallyOf}
 use Rattle.walk.specs.Rows.{rowsOf}
@@ -21,6 +21,8 @@ use Rattle.walk.specs.declared.rows.Kept.{Kept}
 pub record LineSays {S : Type 0} (says : List ℕ → Answer) (sayings : Reading S) (answerIn : S → Answer) (longest : ℕ) : Type 0 where
   -- the four figures of a walk over a line add up to its length
   pub adds-up : (closed : Bool) (line : List ℕ) → let t = tallyOf (answering says) closed line in t .accepted + t .refused + t .skipped + t .waiting ≡ length line
+  -- each move says, at its place, what the reading says there, with the message
+  pub in-place : (closed : Bool) (line : List ℕ) → Each (λ m. m .said ≡ sayings .says (drop (m .at) line)) (walk sayings closed line)
   -- a step has the answer number that the reading gives at its place, and a move its values
   pub step-number : (closed : Bool) (at : ℕ) (line : List ℕ) → stepNumber (moveAt says closed at line) ≡ answerNumber (says (drop at line))
   pub step-values : (closed : Bool) (at : ℕ) (line : List ℕ) → stops (answering says) closed (drop at line) ≡ false

@@ -52,3 +52,8 @@ restOf R closed t = left R closed (length t) t
 -- the walk over a line
 abbrev pub walk : {A : Type 0} → Reading A → Bool → List ℕ → List (Move A)
 walk R closed line = walkFrom R closed 0 line
+
+-- a property of every move
+abbrev pub Each : {A : Type 0} → (Move A → Type 0) → List (Move A) → Type 0
+Each P [] = Unit {0}
+Each P (m ∷ ms) = P m × Each P ms
