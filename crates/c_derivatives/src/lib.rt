@@ -8,9 +8,10 @@ ghost use Rattle.walk.specs.Tally.{talliedOf};
 ghost use Rattle.derivatives_lines.specs.Lines.{answers, moveAt};
 use c_outcomes::of_answer;
 use c_outcomes::of_step;
-use derivatives_lines::figures::walked;
-use derivatives_lines::moves::move_at;
 use derivatives_reading::read;
+use lines::exchanges::Exchange;
+use lines::figures::walked;
+use lines::moves::move_at;
 use walk::tally::Tally;
 
 // The answer alone, with its figures.
@@ -26,7 +27,7 @@ pub extern "C" fn trivsome_derivatives_read(line: &[u8], at: usize) -> u64
 pub extern "C" fn trivsome_derivatives_move(line: &[u8], at: usize, closed: bool) -> u64
     ensures { λ r. ⌜ r ≡ moveOutcome (moveAt closed at (now (line .entry))) ⌝ }
 {
-    of_step(move_at(line, at, closed))
+    of_step(move_at(Exchange::Derivatives, line, at, closed))
 }
 
 // The tally of accepted, refused, skipped and waiting bytes, moved on by this walk.
@@ -41,7 +42,7 @@ pub extern "C" fn trivsome_derivatives_walk(tally: &mut [u64; 4], line: &[u8], c
         skipped: tally[2],
         waiting: tally[3],
     };
-    let w = walked(before, line, closed);
+    let w = walked(Exchange::Derivatives, before, line, closed);
     let after = w.tally;
     *tally = [after.accepted, after.refused, after.skipped, after.waiting];
     w.answer as u64

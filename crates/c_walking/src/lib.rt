@@ -9,8 +9,9 @@ ghost use Rattle.walk.specs.Tally.{talliedOf};
 ghost use Rattle.stock_lines.specs.Lines.{answers, moveAt};
 use c_outcomes::of_answer;
 use c_outcomes::of_step;
-use stock_lines::figures::walked;
-use stock_lines::moves::move_at;
+use lines::exchanges::Exchange;
+use lines::figures::walked;
+use lines::moves::move_at;
 use stock_reading::reading::read;
 use walk::tally::Tally;
 
@@ -27,7 +28,7 @@ pub extern "C" fn trivsome_read(line: &[u8], at: usize) -> u64
 pub extern "C" fn trivsome_move(line: &[u8], at: usize, closed: bool) -> u64
     ensures { λ r. ⌜ r ≡ moveOutcome (moveAt closed at (now (line .entry))) ⌝ }
 {
-    of_step(move_at(line, at, closed))
+    of_step(move_at(Exchange::Stock, line, at, closed))
 }
 
 // The tally of accepted, refused, skipped and waiting bytes, moved on by this walk.
@@ -42,7 +43,7 @@ pub extern "C" fn trivsome_walk(tally: &mut [u64; 4], line: &[u8], closed: bool)
         skipped: tally[2],
         waiting: tally[3],
     };
-    let w = walked(before, line, closed);
+    let w = walked(Exchange::Stock, before, line, closed);
     let after = w.tally;
     *tally = [after.accepted, after.refused, after.skipped, after.waiting];
     w.answer as u64

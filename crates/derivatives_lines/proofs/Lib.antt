@@ -1,5 +1,3 @@
--- The laws that the proofs cite, and the theorems that belong to no one function.
+-- That the reading of the derivatives exchange's line is sound, and what follows for a walk over it.
 pub mod LineLaws
 pub mod LineTheorems
-pub mod Determined
-pub mod DeterminedTally

@@ -10,10 +10,7 @@ use Rattle.derivatives_reading.specs.Reading.{answerOf, indexIn}
 use Rattle.walk.specs.Walk.{Reading}
 use Rattle.walk.specs.Answers.{answering}
 use Rattle.walk.specs.Lines as lines
-use Rattle.walk.specs.declared.rows.Kept.{Kept}
-use Rattle.walk.specs.declared.rows.Next.{Next}
 use Rattle.walk.specs.declared.moves.Step.{Step}
-use Rattle.walk.specs.declared.stretch.Stretch.{Stretch}
 
 -- the reading of the frames, by their answers
 abbrev pub answers : Reading Answer
@@ -39,11 +36,3 @@ sayings = record {
 -- the move at a place of a line, or that the walk stops there
 abbrev pub moveAt : Bool → ℕ → List ℕ → Step
 moveAt closed at line = lines.moveAt answerOf closed at line
-
--- what a walk meets from a place on: the bytes before the next 27 at once, answered 1; at a 27 what the reading answers
-abbrev pub stretchOf : Bool → List ℕ → Stretch
-stretchOf closed t = lines.stretchOf answerOf closed t
-
--- the next rows of a line from a place on, with what is kept from the pieces before
-abbrev pub nextRows : Bool → Kept → ℕ → List ℕ → Next
-nextRows closed kept at line = lines.nextRows answerOf closed kept at line

@@ -1,5 +1,2 @@
-// Walking the derivatives exchange's line: move by move, in figures, and in rows while it comes in pieces.
-pub mod figures;
-pub mod moves;
-pub mod pieces;
-pub mod tally;
+// The derivatives exchange's line: its reading, with and without the index values, and what a walk over it promises. There is no code here:
+// `lines` walks it.

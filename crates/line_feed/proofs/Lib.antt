@@ -1,3 +1,2 @@
 -- The theorems that belong to no one function.
 pub mod Determined
-pub mod ExchangeLaws

@@ -1,8 +1,8 @@
 -- The beginning of a line of an exchange.
 use mathlib.Core.Bool.{false}
 use Rattle.walk.specs.Told.{noRow, fresh}
-use Rattle.line_feed.specs.declared.exchanges.Exchange.{Exchange}
-use Rattle.line_feed.specs.declared.exchanges.Exchange.the-variants.{Stock}
+use Rattle.lines.specs.declared.exchanges.Exchange.{Exchange}
+use Rattle.lines.specs.declared.exchanges.Exchange.the-variants.{Stock}
 use Rattle.line_feed.specs.declared.feed.Feed.{Feed}
 use Rattle.line_feed.specs.declared.frames.Frames.{Frames}
 use Rattle.line_feed.specs.declared.moves.Moves.{Moves}

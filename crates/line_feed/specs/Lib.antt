@@ -1,3 +1,2 @@
--- What a program holds of a line that it reads, and what the exchanges' readings say of it.
+-- What a program holds of a line that it reads.
 pub mod Beginning
-pub mod Exchanges

@@ -1,5 +1,5 @@
 // What the arguments of a program ask for that reads a line of either exchange.
-use crate::exchanges::Exchange;
+use lines::exchanges::Exchange;
 
 pub enum Asked {
     // no argument: a line of the stock exchange; derivatives-2015: one of the derivatives exchange

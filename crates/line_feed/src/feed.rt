@@ -1,8 +1,8 @@
 // A line that is being read, and the text about it that waits to be written.
 ghost use mathlib.Core.Path.{_≡_};
 ghost use Rattle.line_feed.specs.Beginning.{freshFeed};
-use crate::exchanges::Exchange;
 use libc::STDERR_FILENO;
+use lines::exchanges::Exchange;
 
 // Standard input could not be read.
 pub const READ: u8 = 1;

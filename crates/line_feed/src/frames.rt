@@ -1,7 +1,6 @@
 // The frames of a line of the stock exchange whose outlines are whole, one at a time, their bodies not yet read.
 ghost use mathlib.Core.Path.{_≡_};
 ghost use Rattle.line_feed.specs.Beginning.{freshFrames};
-use crate::exchanges::Exchange;
 use crate::feed::FULL;
 use crate::feed::Feed;
 use crate::input::read_on;
@@ -9,6 +8,7 @@ use crate::output::failed;
 use crate::output::relieved;
 use crate::places::behind;
 use crate::places::between;
+use lines::exchanges::Exchange;
 use stock_frame::head::Head;
 use stock_lines::frames::Ahead;
 use stock_lines::frames::next_frame as ahead;

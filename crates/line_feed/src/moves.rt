@@ -1,14 +1,14 @@
 // The moves of a line, one at a time, with their bytes.
 ghost use mathlib.Core.Path.{_≡_};
 ghost use Rattle.line_feed.specs.Beginning.{freshMoves};
-use crate::exchanges::Exchange;
-use crate::exchanges::stretch_at;
 use crate::feed::FULL;
 use crate::feed::Feed;
 use crate::input::read_on;
 use crate::output::failed;
 use crate::output::relieved;
 use crate::places::behind;
+use lines::exchanges::Exchange;
+use lines::pieces::stretch_at;
 use walk::rows::Row;
 use walk::stretch::Stretch;
 

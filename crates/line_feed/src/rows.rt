@@ -2,13 +2,13 @@
 ghost use mathlib.Core.Path.{_≡_};
 ghost use Rattle.walk.specs.Told.{noRow};
 ghost use Rattle.line_feed.specs.Beginning.{freshRows};
-use crate::exchanges::Exchange;
-use crate::exchanges::next_rows;
 use crate::feed::FULL;
 use crate::feed::Feed;
 use crate::input::read_on;
 use crate::output::failed;
 use crate::output::relieved;
+use lines::exchanges::Exchange;
+use lines::pieces::next_rows;
 use walk::rows::Kept;
 use walk::rows::Next;
 use walk::rows::Row;

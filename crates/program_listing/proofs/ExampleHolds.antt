@@ -5,7 +5,7 @@ use mathlib.Core.List.{List, [], _∷_, _++_}
 use Rattle.walk.specs.Tally.{tallyOf}
 use Rattle.stock_reading.specs.Reading.{formatOf, checks, answerOf}
 use Rattle.derivatives_reading.specs.Reading as derivatives
-use Rattle.line_feed.specs.declared.exchanges.Exchange.the-variants.{Stock, Derivatives}
+use Rattle.lines.specs.declared.exchanges.Exchange.the-variants.{Stock, Derivatives}
 use Rattle.program_listing.specs.Listing.{header, listing}
 use Rattle.program_listing.specs.Example.{line, output, derivativesLine, derivativesOutput}
 

@@ -13,9 +13,9 @@ use Rattle.walk.specs.Rows.{rowsOf}
 use Rattle.walk.specs.Told.{rowOf}
 use Rattle.walk.specs.declared.rows.Row.{Row}
 use Rattle.walk.specs.declared.tally.Tally.{Tally}
-use Rattle.line_feed.specs.Exchanges.{answerOn}
-use Rattle.line_feed.specs.declared.exchanges.Exchange.{Exchange}
-use Rattle.line_feed.specs.declared.exchanges.Exchange.the-variants.{Stock, Derivatives}
+use Rattle.lines.specs.Lines.{answerOn}
+use Rattle.lines.specs.declared.exchanges.Exchange.{Exchange}
+use Rattle.lines.specs.declared.exchanges.Exchange.the-variants.{Stock, Derivatives}
 
 -- ASCII
 abbrev pub comma : ℕ

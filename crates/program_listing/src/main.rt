@@ -5,7 +5,6 @@ mod rows;
 
 use line_feed::asked::Asked;
 use line_feed::asked::asked_for;
-use line_feed::exchanges::Exchange;
 use line_feed::feed::ARGUMENT;
 use line_feed::feed::READ;
 use line_feed::feed::tell;
@@ -13,6 +12,7 @@ use line_feed::output::written;
 use line_feed::rows::RowPull;
 use line_feed::rows::Rows;
 use line_feed::rows::next_row;
+use lines::exchanges::Exchange;
 use rows::put_header;
 use rows::put_row;
 use rows::put_total;

@@ -2,7 +2,7 @@
 ghost use Rattle.printing.specs.Text.{Puts};
 ghost use Rattle.program_listing.specs.Listing.{header, mark, frameText, rowText, totalText};
 use answers::Answer;
-use line_feed::exchanges::Exchange;
+use lines::exchanges::Exchange;
 use printing::put;
 use printing::put_all;
 use printing::put_field;

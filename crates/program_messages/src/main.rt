@@ -7,7 +7,6 @@ mod objects;
 use index::put_index_line;
 use line_feed::asked::Asked;
 use line_feed::asked::asked_for;
-use line_feed::exchanges::Exchange;
 use line_feed::feed::ARGUMENT;
 use line_feed::feed::READ;
 use line_feed::feed::tell;
@@ -15,6 +14,7 @@ use line_feed::frames::FramePull;
 use line_feed::frames::Frames;
 use line_feed::frames::next_frame;
 use line_feed::output::written;
+use lines::exchanges::Exchange;
 use objects::put_framed;
 
 // Puts the objects of a whole line of the stock exchange, and answers what failed, or 0.

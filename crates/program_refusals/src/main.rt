@@ -8,12 +8,12 @@ mod runs;
 
 use line_feed::asked::Asked;
 use line_feed::asked::asked_for;
-use line_feed::exchanges::Exchange;
 use line_feed::feed::ARGUMENT;
 use line_feed::feed::READ;
 use line_feed::feed::tell;
 use line_feed::moves::MovePull;
 use line_feed::moves::next_move;
+use lines::exchanges::Exchange;
 use objects::SHOWN;
 use runs::Walked;
 use runs::ended;

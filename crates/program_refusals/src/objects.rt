@@ -1,7 +1,7 @@
 // The object of a refused frame, or of a run of skipped bytes.
 use crate::reasons::put_why;
 use digits::halves::Place;
-use line_feed::exchanges::Exchange;
+use lines::exchanges::Exchange;
 use printing::put_all;
 use printing::put_number;
 use stock_texts::counts::put_count;

@@ -2,7 +2,7 @@
 use crate::index::put_index_why;
 use crate::index::put_long_why;
 use digits::halves::Place;
-use line_feed::exchanges::Exchange;
+use lines::exchanges::Exchange;
 use printing::put;
 use printing::put_all;
 

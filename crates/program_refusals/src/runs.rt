@@ -1,12 +1,12 @@
 // Skipped bytes next to each other, joined as the listing joins them: the first one's place and reason.
 use crate::objects::put_object;
 use crate::objects::shown;
-use line_feed::exchanges::Exchange;
 use line_feed::feed::FULL;
 use line_feed::moves::Moved;
 use line_feed::moves::Moves;
 use line_feed::output::failed;
 use line_feed::output::written;
+use lines::exchanges::Exchange;
 use printing::put_all;
 use walk::rows::Kept;
 use walk::rows::Row;

@@ -4,4 +4,3 @@ pub mod LineTheorems
 pub mod FrameLaws
 pub mod FrameTheorems
 pub mod Determined
-pub mod DeterminedTally

@@ -23,10 +23,7 @@ use Rattle.walk.specs.Walk.{Reading, Move, walkFrom}
 use Rattle.walk.specs.Answers.{answering}
 use Rattle.walk.specs.Lines as lines
 pub use Rattle.walk.specs.Lines.{stepNumber, stepValues}
-use Rattle.walk.specs.declared.rows.Kept.{Kept}
-use Rattle.walk.specs.declared.rows.Next.{Next}
 use Rattle.walk.specs.declared.moves.Step.{Step}
-use Rattle.walk.specs.declared.stretch.Stretch.{Stretch}
 use Rattle.stock_lines.specs.declared.frames.Ahead.{Ahead}
 use Rattle.stock_lines.specs.declared.frames.Ahead.the-variants.{Frame, Nothing}
 
@@ -71,14 +68,6 @@ sayings = record {
 -- the move at a place of a line, or that the walk stops there; its number and its values are `stepNumber` and `stepValues`
 abbrev pub moveAt : Bool → ℕ → List ℕ → Step
 moveAt closed at line = lines.moveAt answerOf closed at line
-
--- what a walk meets from a place on: the bytes before the next 27 at once, answered 1; at a 27 what the reading answers
-abbrev pub stretchOf : Bool → List ℕ → Stretch
-stretchOf closed t = lines.stretchOf answerOf closed t
-
--- the next rows of a line from a place on, with what is kept from the pieces before
-abbrev pub nextRows : Bool → Kept → ℕ → List ℕ → Next
-nextRows closed kept at line = lines.nextRows answerOf closed kept at line
 
 -- a frame whose outline is whole, or what is met further on
 abbrev pub onOutline : Outline → ℕ → Ahead → Ahead

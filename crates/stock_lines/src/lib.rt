@@ -1,6 +1,3 @@
-// Walking the stock exchange's line: move by move, frame by frame, in figures, and in rows while it comes in pieces.
-pub mod figures;
+// The stock exchange's line: its reading, with and without the messages, what a walk over it promises, and its frames one after another.
+// `lines` walks it.
 pub mod frames;
-pub mod moves;
-pub mod pieces;
-pub mod tally;

@@ -4,7 +4,7 @@ use mathlib.Core.List.{[]}
 use borrow.Author.Needs.{needs}
 use Rattle.printing.specs.Text.{Puts}
 use Rattle.printing.proofs.TextLaws.{puts-none}
-use Rattle.line_feed.specs.declared.exchanges.Exchange.{Exchange}
+use Rattle.lines.specs.declared.exchanges.Exchange.{Exchange}
 use Rattle.program_listing.specs.Listing.{mark}
 use Rattle.program_listing.proofs.rows.put_mark.Statement.{statement}
 use Rattle.program_listing.proofs.rows.put_mark.Tie as tie

@@ -1,0 +1,2 @@
+-- A line of either exchange: definitions that the contracts cite.
+pub mod Lines
