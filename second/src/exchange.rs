@@ -20,8 +20,8 @@ pub trait Exchange {
     /// Reads the frame that the bytes begin with. Bytes behind it are not looked at.
     fn read(bytes: &[u8]) -> Answer<Self::Message>;
 
-    /// The words for the refusal of a frame.
-    fn why_refused(why: Refusal) -> &'static str;
+    /// The words for the refusal of a frame, whose bytes they are.
+    fn why_refused(why: Refusal, frame: &[u8]) -> &'static str;
 }
 
 /// What the programs print of a message.
@@ -48,8 +48,8 @@ impl Exchange for Stock {
         reading::read(bytes)
     }
 
-    fn why_refused(why: Refusal) -> &'static str {
-        refusals::why_refused(why)
+    fn why_refused(why: Refusal, frame: &[u8]) -> &'static str {
+        refusals::why_refused(why, frame)
     }
 }
 

@@ -41,10 +41,10 @@ WHY = {
 }
 
 
-def why(answer, place):
+def why(answer, place, data):
     if answer == 3 and place is None:
         return "the frame would be longer than 1024 bytes"
-    return WHY.get(answer) or refusals_maker.why(answer, place)
+    return WHY.get(answer) or refusals_maker.why(answer, place, data)
 
 
 # ---------------------------------------------------------------------------------------------------------------------
@@ -256,7 +256,7 @@ def pieces_of(line, moves):
 
 def told(row):
     """The object of a refused frame or of a run of skipped bytes."""
-    return dict(refusals_maker.told(*row), why=why(row[1], row[2]))
+    return refusals_maker.told(*row, why)
 
 
 def printed(line):

@@ -34,14 +34,27 @@ WHY = {
     9: "the length is not one that the format, or the reveal byte, allows",
     10: "the reveal byte has more than 5 levels on a side, or levels beside the trade alone",
     11: "a packed field of the body has a bad digit",
-    12: "a time breaks its rule",
-    13: "another field breaks its rule",
+}
+# what can be the matter with the times and with the other fields of a format
+TIMES = {
+    "06": "the time is no time of day, or twelve nines stand without the code 000000, or that code without them",
+    "12": "the time of a slot is no time of day, or twelve nines stand in a slot behind the count",
+    "19": "the halt time is no time of day, or the resume time is neither a time of day nor 999999",
+}
+OTHERS = {
+    "05": "the category is not 00, 09, 90 or 99",
+    "06": "a code byte is not 32 to 126",
+    "12": "the count is not 1 to 10, a code byte is not 32 to 126, or a slot behind the count is not six spaces and zeros",
+    "19": "the state is not C or I, a code byte is not 32 to 126, or the code of a round's end is not six digits",
 }
 
 
-def why(answer, place):
+def why(answer, place, data):
+    """The words for an answer to some bytes."""
     if answer == 3:
         return "the length is below 14 or above 1024" if place is None else "the length has a bad digit"
+    if answer in (12, 13):
+        return (TIMES if answer == 12 else OTHERS)[data[4:5].hex()]
     return WHY[answer]
 
 
@@ -178,9 +191,9 @@ def parts():
 # ---------------------------------------------------------------------------------------------------------------------
 # The objects: of the parts, and once more of the moves of the reference reader.
 
-def told(at, answer, place, data):
+def told(at, answer, place, data, words=why):
     """The object of a refused frame or a run, with all its bytes."""
-    return dict(at=at, answer=answer, bytes=len(data), place=place, hex=data[:SHOWN].hex(), why=why(answer, place))
+    return dict(at=at, answer=answer, bytes=len(data), place=place, hex=data[:SHOWN].hex(), why=words(answer, place, data))
 
 
 def joined(pieces):
@@ -238,6 +251,9 @@ def assert_edges(line, found):
     counts = {kind: len(places) for kind, places in told_places.items()}
     assert counts == {3: 4, 6: 14, "05": 2, "06": 218, "12": 602, "19": 12}, counts
     assert leading == set("123456789"), leading
+    # every word that there is
+    words = {row["why"] for row in found}
+    assert {*WHY.values(), *TIMES.values(), *OTHERS.values()} <= words and len(words) == len(WHY) + len(TIMES) + len(OTHERS) + 2
 
 
 def main():

@@ -1,4 +1,5 @@
 // The object of a refused frame, or of a run of skipped bytes.
+use crate::fields::format_byte;
 use crate::reasons::put_why;
 use digits::halves::Place;
 use lines::exchanges::Exchange;
@@ -45,7 +46,7 @@ fn put_row(out: &mut [u8], at: usize, exchange: Exchange, row: Row, bytes: &[u8]
     let at = put_place(out, at, place);
     let at = put_all(out, at, b",\"hex\":");
     let at = put_hex(out, at, bytes);
-    let at = put_why(out, at, exchange, n, place);
+    let at = put_why(out, at, exchange, n, place, format_byte(bytes));
     put_all(out, at, b"}\n")
 }
 

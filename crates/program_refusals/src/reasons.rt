@@ -1,4 +1,6 @@
 // Why a frame is refused or bytes are skipped, by the answer; of the answers to a frame of the derivatives exchange `index.rt` tells.
+use crate::fields::put_field_why;
+use crate::fields::put_time_why;
 use crate::index::put_index_why;
 use crate::index::put_long_why;
 use digits::halves::Place;
@@ -75,7 +77,7 @@ pub(crate) fn put_digit_why(out: &mut [u8], at: usize) -> usize {
 }
 
 // Of the answers 10 to 13, of which the body tells.
-fn put_body_why(out: &mut [u8], at: usize, n: u8) -> usize {
+fn put_body_why(out: &mut [u8], at: usize, n: u8, format: u8) -> usize {
     if n == 10 {
         return put_all(
             out,
@@ -87,32 +89,46 @@ fn put_body_why(out: &mut [u8], at: usize, n: u8) -> usize {
         return put_digit_why(out, at);
     }
     if n == 12 {
-        return put_all(out, at, b"a time breaks its rule");
+        return put_time_why(out, at, format);
     }
-    put_all(out, at, b"another field breaks its rule")
+    put_field_why(out, at, format)
 }
 
 // Of a frame of the stock exchange.
-fn put_stock_why(out: &mut [u8], at: usize, n: u8) -> usize {
+fn put_stock_why(out: &mut [u8], at: usize, n: u8, format: u8) -> usize {
     if n <= 9 {
         return put_header_why(out, at, n);
     }
-    put_body_why(out, at, n)
+    put_body_why(out, at, n, format)
 }
 
-fn put_words(out: &mut [u8], at: usize, exchange: Exchange, n: u8, place: Place) -> usize {
+fn put_words(
+    out: &mut [u8],
+    at: usize,
+    exchange: Exchange,
+    n: u8,
+    place: Place,
+    format: u8,
+) -> usize {
     if n <= 5 {
         return put_skipped_why(out, at, exchange, n, place);
     }
     match exchange {
-        Exchange::Stock => put_stock_why(out, at, n),
+        Exchange::Stock => put_stock_why(out, at, n, format),
         Exchange::Derivatives => put_index_why(out, at, n),
     }
 }
 
-// The words behind their key.
-pub(crate) fn put_why(out: &mut [u8], at: usize, exchange: Exchange, n: u8, place: Place) -> usize {
+// The words behind their key; the format's byte is looked at in a frame of the stock exchange.
+pub(crate) fn put_why(
+    out: &mut [u8],
+    at: usize,
+    exchange: Exchange,
+    n: u8,
+    place: Place,
+    format: u8,
+) -> usize {
     let at = put_all(out, at, b",\"why\":\"");
-    let at = put_words(out, at, exchange, n, place);
+    let at = put_words(out, at, exchange, n, place, format);
     put(out, at, b'"')
 }

@@ -21,7 +21,7 @@ impl Exchange for Derivatives2015 {
         derivatives::read(bytes)
     }
 
-    fn why_refused(why: Refusal) -> &'static str {
+    fn why_refused(why: Refusal, _: &[u8]) -> &'static str {
         match why {
             Refusal::HeaderDigit => "the header, bytes 4 to 12, has a bad digit",
             Refusal::Format => "the transmission code is not 1 or 4, or the kind is not 5 or 8",
@@ -29,8 +29,10 @@ impl Exchange for Derivatives2015 {
             Refusal::Length => "the body is not 12 or 17 bytes long",
             Refusal::Time => "a time is no time of day",
             Refusal::Field => "a contract byte is not 32 to 126, or a reserved status bit is set",
-            // The same words as at the stock exchange; no frame here has levels.
-            Refusal::Digit | Refusal::Levels => refusals::why_refused(why),
+            // The same words as at the stock exchange.
+            Refusal::Digit => refusals::WHY_DIGIT,
+            // No frame here has levels.
+            Refusal::Levels => "",
         }
     }
 }

@@ -68,8 +68,8 @@ const TOLD: &str = r#"{"at":0,"answer":1,"bytes":2,"place":null,"hex":"4142","wh
 {"at":162,"answer":9,"bytes":32,"place":null,"hex":"1b00320106040000000132333330202009041506127880001000016423900d0a","why":"the length is not one that the format, or the reveal byte, allows"}
 {"at":194,"answer":10,"bytes":32,"place":null,"hex":"1b003201060400000001323333302020090415061278a3001000016423b30d0a","why":"the reveal byte has more than 5 levels on a side, or levels beside the trade alone"}
 {"at":226,"answer":11,"bytes":41,"place":58,"hex":"1b00410106040000000132333330202009041506127881001000016423100099500000000250690d0a","why":"a packed field of the body has a bad digit"}
-{"at":267,"answer":12,"bytes":26,"place":null,"hex":"1b00260119010000000132333330202024000099999949c80d0a","why":"a time breaks its rule"}
-{"at":307,"answer":13,"bytes":14,"place":null,"hex":"1b00140105010000000101110d0a","why":"another field breaks its rule"}
+{"at":267,"answer":12,"bytes":26,"place":null,"hex":"1b00260119010000000132333330202024000099999949c80d0a","why":"the halt time is no time of day, or the resume time is neither a time of day nor 999999"}
+{"at":307,"answer":13,"bytes":14,"place":null,"hex":"1b00140105010000000101110d0a","why":"the category is not 00, 09, 90 or 99"}
 {"at":321,"answer":2,"bytes":3,"place":null,"hex":"1b0014","why":"the line ends before this frame does"}
 "#;
 
@@ -107,7 +107,7 @@ fn runs_are_joined_as_in_the_listing() {
     let refused = frame(FIVE, &[0x01]);
     let line = [hex("1B F0 00 1B 00 13 41"), refused, hex("41 1B A0"), hex(NOTICE), hex("1B 1B 1B")].concat();
     let text = r#"{"at":0,"answer":3,"bytes":7,"place":2,"hex":"1bf0001b001341","why":"the length has a bad digit"}
-{"at":7,"answer":13,"bytes":14,"place":null,"hex":"1b00140105010000000101110d0a","why":"another field breaks its rule"}
+{"at":7,"answer":13,"bytes":14,"place":null,"hex":"1b00140105010000000101110d0a","why":"the category is not 00, 09, 90 or 99"}
 {"at":21,"answer":1,"bytes":3,"place":null,"hex":"411ba0","why":"no frame begins here: the first byte is not 1B"}
 {"at":38,"answer":3,"bytes":3,"place":3,"hex":"1b1b1b","why":"the length has a bad digit"}
 "#;
@@ -119,4 +119,32 @@ fn runs_are_joined_as_in_the_listing() {
     let rows: Vec<String> = rows.map(|row| row.split(',').take(3).collect::<Vec<_>>().join(",")).collect();
     let skipped_or_refused = listed.lines().filter_map(|row| row.strip_suffix(",-,-"));
     assert!(skipped_or_refused.eq(rows.iter()), "{listed}");
+}
+
+#[test]
+fn what_can_be_the_matter_with_times_and_other_fields() {
+    has_words(12, SIX, &body("2330  ", "240000000000 00 00 10 00016423"), SIX_TIME);
+    has_words(12, SIX, &body("000000", "090415061278 00 00 10 00016423"), SIX_TIME);
+    has_words(12, TWELVE, &table("01", &[slot("1101  ", DAY), slot("      ", NINES)]), TWELVE_TIME);
+    has_words(12, NINETEEN, &body("2330  ", "999999 091200 49"), NINETEEN_TIMES);
+    has_words(13, FIVE, &hex("91"), "the category is not 00, 09, 90 or 99");
+    has_words(13, SIX, &body("2330\t ", "090415061278 00 00 10 00016423"), "a code byte is not 32 to 126");
+    has_words(13, TWELVE, &table("00", &[]), TWELVE_FIELDS);
+    has_words(13, NINETEEN, &body("2     ", "999999 999999 49"), NINETEEN_FIELDS);
+}
+
+const SIX_TIME: &str =
+    "the time is no time of day, or twelve nines stand without the code 000000, or that code without them";
+const TWELVE_TIME: &str = "the time of a slot is no time of day, or twelve nines stand in a slot behind the count";
+const NINETEEN_TIMES: &str = "the halt time is no time of day, or the resume time is neither a time of day nor 999999";
+const TWELVE_FIELDS: &str = "the count is not 1 to 10, a code byte is not 32 to 126, or a slot behind the count is \
+                             not six spaces and zeros";
+const NINETEEN_FIELDS: &str =
+    "the state is not C or I, a code byte is not 32 to 126, or the code of a round's end is not six digits";
+
+/// The one object of a frame ends in these words.
+fn has_words(answer: u8, header: &str, body: &[u8], words: &str) {
+    let text = told(&frame(header, body));
+    assert!(text.starts_with(&format!("{{\"at\":0,\"answer\":{answer},")), "{text}");
+    assert!(text.ends_with(&format!(",\"why\":\"{words}\"}}\n")), "{text}");
 }
