@@ -112,10 +112,11 @@ static inline size_t trivsome_length(uint64_t outcome) { return (size_t)(outcome
 static inline uint32_t trivsome_seq(uint64_t outcome) { return trivsome_answer(outcome) == 0 ? (uint32_t)(outcome >> 32) : 0; }
 
 /* Of a reading or a move: whether it tells the place of a bad digit, which 6 and 11 do, and 3 where a digit of the length is the
- * cause; and which place, 0 where it tells none. The place is that of the first bad half byte, counted in halves from the frame's
- * first byte, the 27: it is in byte place / 2, from 0, in the high half if place is even and in the low half if it is odd. Beside
- * 3 it is 2 to 5, beside 6 it is 6 to 19, beside 11 it is 20 or more; on a line of the derivatives exchange 24 to 27, 6 to 23, and
- * 34 to 59. A price's first half of 1 to 9 is a bad digit too. */
+ * cause; and which place, 0 where it tells none. The place is that of the first bad half byte, counted in halves from 0 at the
+ * frame's first byte, the 27: it is in frame[place / 2], which is byte place / 2 + 1 as bytes are counted above, from 1, in the
+ * high half if place is even and in the low half if it is odd. Beside 3 it is 2 to 5, beside 6 it is 6 to 19, beside 11 it is 20
+ * or more; on a line of the derivatives exchange 24 to 27, 6 to 23, and 34 to 59. A price's first half of 1 to 9 is a bad digit
+ * too. */
 static inline bool trivsome_bad_half(uint64_t outcome, size_t *place)
 {
     uint32_t above = trivsome_answer(outcome) != 0 ? (uint32_t)(outcome >> 32) : 0; /* a place and one, or 0 for none */

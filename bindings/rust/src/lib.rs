@@ -32,7 +32,7 @@
 //! notice[11] ^= 0x03; // and the check byte goes with it
 //! let why = trivsome::read(&notice, 0).answer();
 //! assert_eq!((why.number(), why.length(), why.bad_half()), (11, 14, Some(21)));
-//! assert_eq!(why.to_string(), "11: a bad digit in the body, at half 21 (byte 10, low)");
+//! assert_eq!(why.to_string(), "11: a bad digit in the body, at half 21 (the low half of byte 11, from 1)");
 //! ```
 //!
 //! Index values of the derivatives exchange are in thousandths; its lines have calls of their own:

@@ -118,8 +118,9 @@ impl Outcome {
 
     /// The place of the first bad digit: for 6 and 11, and for 3 where a digit of the length is the cause.
     ///
-    /// Places are half bytes, counted from the frame's first byte, the 27: byte `place / 2`, from 0, has it in its high half if
-    /// `place` is even, and in its low half if it is odd. A price's first half of 1 to 9 is a bad digit too.
+    /// Places are half bytes, counted from 0 at the frame's first byte, the 27: `frame[place / 2]`, which is byte `place / 2 + 1`
+    /// from 1, has it in its high half if `place` is even, and in its low half if it is odd. A price's first half of 1 to 9 is a bad
+    /// digit too.
     #[inline]
     pub fn bad_half(self) -> Option<u16> {
         match self.number() {
@@ -213,7 +214,7 @@ impl fmt::Display for Answer {
             1 => "the first byte is not 27",
             2 => "there are too few bytes",
             3 if self.bad_half().is_some() => "a bad digit in the length",
-            3 => "a length outside 14 to 1,024",
+            3 => "a frame of over 1,024 bytes, or of the stock exchange under 14",
             4 => "the last two bytes are not 0D 0A",
             5 => "another check byte",
             6 => "a bad digit in the header",
@@ -227,7 +228,12 @@ impl fmt::Display for Answer {
         };
         write!(f, "{}: {why}", self.number())?;
         let Some(half) = self.bad_half() else { return Ok(()) };
-        write!(f, ", at half {half} (byte {}, {})", half / 2, ["high", "low"][usize::from(half % 2)])
+        write!(
+            f,
+            ", at half {half} (the {} half of byte {}, from 1)",
+            ["high", "low"][usize::from(half % 2)],
+            half / 2 + 1
+        )
     }
 }
 

@@ -203,11 +203,14 @@ fn a_walk_tells_places_from_each_frame_on() {
 #[test]
 fn words() {
     let say = |line: &[u8]| read(line, 0).answer().to_string();
-    assert_eq!(say(&with(&quote(0x00, 0), 41, 10)), "11: a bad digit in the body, at half 41 (byte 20, low)");
-    assert_eq!(say(&with(&NOTICE, 6, 10)), "6: a bad digit in the header, at half 6 (byte 3, high)");
-    assert_eq!(say(&[0x1B, 0x0A, 0x14]), "3: a bad digit in the length, at half 3 (byte 1, low)");
-    assert_eq!(say(&[0x1B, 0x00, 0x13]), "3: a length outside 14 to 1,024");
+    assert_eq!(
+        say(&with(&quote(0x00, 0), 41, 10)),
+        "11: a bad digit in the body, at half 41 (the low half of byte 21, from 1)"
+    );
+    assert_eq!(say(&with(&NOTICE, 6, 10)), "6: a bad digit in the header, at half 6 (the high half of byte 4, from 1)");
+    assert_eq!(say(&[0x1B, 0x0A, 0x14]), "3: a bad digit in the length, at half 3 (the low half of byte 2, from 1)");
+    assert_eq!(say(&[0x1B, 0x00, 0x13]), "3: a frame of over 1,024 bytes, or of the stock exchange under 14");
     let why = read_quote(&with(&HALT, 32, 10), 0).expect_err("refused");
-    assert_eq!(why.to_string(), "11: a bad digit in the body, at half 32 (byte 16, high)");
+    assert_eq!(why.to_string(), "11: a bad digit in the body, at half 32 (the high half of byte 17, from 1)");
     assert_eq!(format!("{:?}", read(&[0x1B, 0x0A, 0x14], 0)), "NoFrame { number: 3, bad_half: Some(3) }");
 }
