@@ -52,7 +52,7 @@ user_tests() {
     programs="crates/line_feed/|crates/stock_texts/|$(for main in crates/*/src/main.rt; do printf '%s/|' "${main%/src/main.rt}"; done)"
     test_on "${programs}trivsome|native/|include/|examples/|samples/|bindings/rust/Cargo|tests/trivsome/|tests/gaps/|tests/reference/" \
         "trivsome runs, and fails loudly" sh tests/trivsome/try.sh
-    test_on "${programs}trivsome|samples/|tests/live/|tests/listing/|tests/messages/|tests/refusals/|tests/board/|tests/reference/" \
+    test_on "${programs}trivsome|samples/|tests/live/|tests/listing/|tests/messages/|tests/refusals/|tests/board/|tests/derivatives/|tests/reference/" \
         "a line that stays open is shown as it comes" python3 tests/live/try.py
     test_on "${programs}trivsome|tests/live/|tests/reference/" "the test programs say what they cannot do" python3 tests/live/bounded.py
     test_on "${programs}crates/derivatives_|trivsome|tests/derivatives/|tests/listing/|tests/messages/|tests/refusals/|tests/reference/" \

@@ -19,8 +19,9 @@ import subprocess
 import sys
 
 sys.path.append(str(pathlib.Path(__file__).resolve().parents[1]))
+from derivatives import shown
+from derivatives.shown import PROGRAMS, WORD, printed
 from listing import make as listing_maker
-from messages import make as messages_maker
 from reference import reader, started, stored
 from reference.frames import MARK, index, packed, patched
 from reference.refusals import spoiled
@@ -28,23 +29,7 @@ from refusals import make as refusals_maker
 
 faults = started.Faults("derivatives")
 
-WORD = "derivatives-2015"
-PROGRAMS = "listing", "messages", "refusals"
 BUFFER = 65536  # bytes that a program has in hand at once
-WHY = {
-    6: "the header, bytes 4 to 12, has a bad digit",
-    7: "the transmission code is not 1 or 4, or the kind is not 5 or 8",
-    8: "the version is not the one of this kind",
-    9: "the body is not 12 or 17 bytes long",
-    12: "a time is no time of day",
-    13: "a contract byte is not 32 to 126, or a reserved status bit is set",
-}
-
-
-def why(answer, place, data):
-    if answer == 3 and place is None:
-        return "the frame would be longer than 1024 bytes"
-    return WHY.get(answer) or refusals_maker.why(answer, place, data)
 
 
 # ---------------------------------------------------------------------------------------------------------------------
@@ -235,54 +220,19 @@ def parts():
 
 
 # ---------------------------------------------------------------------------------------------------------------------
-# What is to be printed, by the moves of the reference reader.
-
-def hundredths(n):
-    return f"{n // 1000000:02}:{n // 10000 % 100:02}:{n // 100 % 100:02}.{n % 100:02}"
-
-
-def object_of(at, m):
-    """The object of a message that the reader read."""
-    return dict(at=at, kind=m["format"], seq=m["seq"], market=m["market"].decode("ascii"), sent=hundredths(m["sent"]),
-                contract=m["contract"].decode("ascii"), time=hundredths(m["time"]),
-                value=f"{m['value'] // 1000}.{m['value'] % 1000:03}", status=m["status"])
-
-
-def pieces_of(line, moves):
-    """The moves as pieces; the place of a bad digit is asked for at each."""
-    for at, answer, step, _ in moves:
-        yield answer, reader.place_2015(line[at:at + 1024]), line[at:at + step]
-
-
-def told(row):
-    """The object of a refused frame or of a run of skipped bytes."""
-    return refusals_maker.told(*row, why)
-
-
-def printed(line):
-    """What each program has to print of a line."""
-    moves = list(reader.walk(line, reader.read_2015))
-    joined = refusals_maker.joined(pieces_of(line, moves))
-    objects = [object_of(at, message) for at, answer, _, message in moves if answer == 0]
-    return {
-        "listing": listing_maker.listing(listing_maker.rows(moves)),
-        "messages": messages_maker.printed(objects).encode("ascii"),
-        "refusals": refusals_maker.printed(told(row) for row in joined if row[1] != 0).encode("ascii"),
-    }
-
+# What has to hold of the line.
 
 def assert_as_made(made, line):
     """The reader finds what each part was made for, and every answer occurs with its causes."""
     moves = list(reader.walk(line, reader.read_2015))
     wanted = refusals_maker.joined((answer, place, data) for answer, place, data, _ in made)
-    for one, other in itertools.zip_longest(wanted, refusals_maker.joined(pieces_of(line, moves))):
+    for one, other in itertools.zip_longest(wanted, refusals_maker.joined(shown.pieces_of(line, moves))):
         assert one == other, f"made for {one}, and the reading says {other}"
     objects, at = [], 0
     for _, _, data, fields in made:
         objects += [dict(at=at, **fields)] if fields else []
         at += len(data)
-    found = [object_of(at, message) for at, answer, _, message in moves if answer == 0]
-    assert [json.dumps(o) for o in objects] == [json.dumps(o) for o in found]
+    assert [json.dumps(o) for o in objects] == [json.dumps(o) for o in shown.objects(moves)]
     assert {row[1] for row in wanted} == {*range(14)} - {10}
     places = collections.defaultdict(set)
     for _, answer, place, data in wanted:

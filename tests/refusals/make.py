@@ -191,8 +191,8 @@ def parts():
 # ---------------------------------------------------------------------------------------------------------------------
 # The objects: of the parts, and once more of the moves of the reference reader.
 
-def told(at, answer, place, data, words=why):
-    """The object of a refused frame or a run, with all its bytes."""
+def told(at, answer, place, data, words):
+    """The object of a refused frame or a run, with all its bytes; the words for an answer are the exchange's."""
     return dict(at=at, answer=answer, bytes=len(data), place=place, hex=data[:SHOWN].hex(), why=words(answer, place, data))
 
 
@@ -210,9 +210,9 @@ def joined(pieces):
     return made
 
 
-def objects(rows):
+def objects(rows, words=why):
     """The objects of joined pieces; an accepted frame has none."""
-    return [told(*row) for row in rows if row[1] != 0]
+    return [told(*row, words) for row in rows if row[1] != 0]
 
 
 def moves_of(line, moves):
