@@ -14,6 +14,7 @@ WORK = machine.ROOT / "target" / "bench"
 MB = 10 ** 6
 NAMES = "listing", "messages", "refusals", "gaps", "board"
 DERIVATIVES = "derivatives-2015"  # the word for a line of the derivatives exchange
+TAKE_WORDS = "listing", "messages", "refusals"  # the programs that take such a word
 
 
 # ---------------------------------------------------------------------------------------------------------------------
@@ -44,10 +45,11 @@ def index_value(seq, chance):
     return around(b"15" + packed(9041512, 8) + packed(seq, 8) + b"\x02" + packed(len(body), 4) + body)
 
 
-def spoiled(frame):
-    """The same frame with a bad digit in the last half of its body, and its check byte right."""
-    bad = frame[-4] | 0x0F
-    return frame[:-4] + bytes([bad, frame[-3] ^ frame[-4] ^ bad]) + frame[-2:]
+def spoiled(frame, behind=0):
+    """The same frame with a bad digit in the low half of its body's last byte, or so many before it, and its check byte right."""
+    at = len(frame) - 4 - behind
+    bad = frame[at] | 0x0F
+    return frame[:at] + bytes([bad]) + frame[at + 1:-3] + bytes([frame[-3] ^ frame[at] ^ bad]) + frame[-2:]
 
 
 def lines(quick, most):
@@ -66,7 +68,9 @@ def lines(quick, most):
     yield [], "all 27s", b"\x1b", size
     yield [], "false lengths of 1,024", b"\x1b\x10\x24", size
     yield [], "false frames with right ends", false_frames, size
-    yield [DERIVATIVES], "index values of 29 bytes", b"".join(index_value(seq, chance) for seq in range(1, 20001)), 5 * size
+    values = [index_value(seq, chance) for seq in range(1, 2001 if quick else 20001)]
+    yield [DERIVATIVES], "index values of 29 bytes", b"".join(values), 5 * size
+    yield [DERIVATIVES], "index values, a bad digit each", b"".join(spoiled(value, 1) for value in values), size
 
 
 def write(path, block, size):
@@ -129,7 +133,7 @@ class Program:
         line = WORK / "line"
         try:
             for words, name, block, size in lines(quick, self.most):
-                if words and self.name != "listing":
+                if words and self.name not in TAKE_WORDS:
                     continue
                 if shutil.disk_usage(WORK).free < 12 * size + 1000 * MB:
                     print(f"  {name:32} {size / MB:6.0f} left out: the disk has no room for it")

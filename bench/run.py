@@ -5,7 +5,8 @@ run.py [--quick] [calls | listing | messages | refusals | gaps | board]
 
 calls     reading and writing of each format, frames refused for a bad digit, arrivals at a ledger, a full board, a capture, a line walked, index values, and packed digits, call by call
 listing, messages, refusals, gaps, board
-          the programs on whole lines: good frames of growing length, and the worst lines
+          the programs on whole lines: good frames of growing length, and the worst lines; the first three also on lines of the
+          derivatives exchange
 --quick   smaller and fewer, done in seconds once all is built
 
 Before anything is timed both sides' answers, messages and outputs are compared; a difference ends the run with status 1. The
