@@ -29,6 +29,13 @@ for word in give-u give-ups Give-up -- ''; do refuses "$word"; done
 refuses give-up give-up
 refuses give-up ''
 
+# board and table take none, not even the word for another exchange's line
+for name in board table; do
+    expect 1 ./trivsome $name derivatives-2015 <samples/capture >"$work/file" 2>"$work/said"
+    echo "$name: there is no argument" | cmp - "$work/said" || differs "$name says something else: $(cat "$work/said")"
+    [ ! -s "$work/file" ] || differs "$name derivatives-2015 prints something"
+done
+
 listing() { ./trivsome listing 2>"$work/said"; }
 
 # pieces of 1 to 4,096 bytes

@@ -6,6 +6,7 @@ mod rows;
 
 ghost use mathlib.Core.Path.{_≡_};
 ghost use lib.ListN.{length};
+use libc::STDERR_FILENO;
 use line_feed::feed::Feed;
 use line_feed::feed::READ;
 use line_feed::feed::tell;
@@ -69,11 +70,20 @@ fn clear_cells() -> [u32; CELLS]
     [0; CELLS]
 }
 
-fn main() {
+fn report_board() {
     let mut buf = io::large_buffer();
     let mut out = io::large_buffer();
     let mut heads = clear_heads();
     let mut cells = clear_cells();
     let failure = put_line(&mut buf, &mut out, &mut heads, &mut cells);
     tell(b"board", failure);
+}
+
+// It reads a line of the stock exchange, and none of another that an argument may name.
+fn main() {
+    if os::arg_count() < 2 {
+        report_board();
+    } else {
+        io::write_all(STDERR_FILENO, b"board: there is no argument\n");
+    }
 }

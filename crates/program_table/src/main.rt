@@ -8,10 +8,18 @@ use rows::put_table;
 // The bytes of the text.
 const TEXT: usize = 1024;
 
-fn main() {
+fn print_table() {
     let mut out = [0; TEXT];
     let to = put_table(&mut out, 0);
     if !io::write_all(STDOUT_FILENO, &out[..to]) {
         io::write_all(STDERR_FILENO, b"table: cannot write standard output\n");
+    }
+}
+
+fn main() {
+    if os::arg_count() < 2 {
+        print_table();
+    } else {
+        io::write_all(STDERR_FILENO, b"table: there is no argument\n");
     }
 }

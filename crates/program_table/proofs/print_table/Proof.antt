@@ -1,11 +1,11 @@
--- `main` is safe: the text that is written lies within the buffer.
+-- `print_table` is safe: the text that is written lies within the buffer.
 use Prim.Native.Nat.{zero-le}
 use borrow.Author.Needs.{needs}
 use lib.ListN.{replicate}
 use Rattle.program_table.specs.Printed.{tableText}
 use Rattle.printing.proofs.TextLaws.{puts-within}
-use Rattle.program_table.proofs.main.Statement.{statement}
-use Rattle.program_table.proofs.main.Tie as tie
+use Rattle.program_table.proofs.print_table.Statement.{statement}
+use Rattle.program_table.proofs.print_table.Tie as tie
 
 slice-aggregate-put-table : tie.Need-slice-aggregate-put-table
 slice-aggregate-put-table c = search needs
@@ -36,8 +36,8 @@ returns c = search needs
 returns-2 : tie.Need-returns-2
 returns-2 c = search needs
 
-pub main-spec : {M : Type 1} → statement M
-main-spec =
+pub print-table-spec : {M : Type 1} → statement M
+print-table-spec =
     tie.close
     (tie.spec
     slice-aggregate-put-table
