@@ -1,34 +1,27 @@
 -- An outcome tells what it was made from: nothing of the answer of a reading of the derivatives exchange is lost in its one number.
-use Prim.Native.Nat.{ℕ, _*_, _≤_, _<_}
+use Prim.Native.Nat.{ℕ, _≤_, _<_}
 use mathlib.Core.Path.{_≡_, refl, sym, ap, _∙_}
 use mathlib.Core.Bool.{Bool, true, false, cond}
 use mathlib.Core.List.{List}
 use native.Mathlib.Omega.{arith}
-use lib.ListN.{length, getD, take, drop}
+use lib.ListN.{length, getD, drop}
 use lib.Dec.{eqb, leb}
-use borrow.Author.Tests.{eqb-true}
-use Rattle.digits.specs.declared.halves.Place.{Place}
-use Rattle.digits.specs.declared.halves.Place.the-variants.{None, Half}
-use Rattle.digits.specs.Halves.{orElse}
-use Rattle.layout.specs.Cells.{goodCells}
-use Rattle.layout.specs.Places.{firstBad}
+use Rattle.digits.specs.declared.halves.Place.the-variants.{Half}
 use Rattle.layout.specs.Checks.{firstFail}
-use Rattle.layout.proofs.CheckLaws.{only-fails}
-use Rattle.layout.proofs.PlaceLaws.{firstBad-inside, firstBad-size}
 use Rattle.answers.specs.Answers.{named, answerNumber, answerLength, answerPlace}
 use Rattle.answers.specs.declared.Frame.{Frame}
 use Rattle.answers.specs.declared.Answer.the-variants.{Accepted}
-use Rattle.frame.specs.Header.{lengthAt, lengthEnd, lengthBytes, lengthCells, lengthOf, lengthRight, own, body, outlineChecks}
+use Rattle.frame.specs.Header.{lengthEnd, lengthOf, lengthRight, own}
 use Rattle.frame.proofs.HeaderLaws.{right-length}
 use Rattle.exchange.specs.Reading.{checksOf, placeOf, frameAt}
-use Rattle.exchange.proofs.NumberLaws.{fails-at-most}
-use Rattle.exchange.proofs.ReadingLaws.{answer-number, checks-apart}
-use Rattle.derivatives_frame.specs.Outline.{header, market, kind, sent, version}
+use Rattle.exchange.proofs.ReadingLaws.{answer-number}
+use Rattle.exchange.proofs.PlaceLaws.{place-at}
+use Rattle.derivatives_frame.specs.Outline.{header, kind}
 use Rattle.derivatives_frame.proofs.HeaderHolds.{law}
-use Rattle.derivatives_index.specs.Index.{numberOf, cellsOf, indexChecks}
-use Rattle.derivatives_index.proofs.IndexLaws.{two-lengths}
+use Rattle.derivatives_index.specs.Index.{numberOf}
 use Rattle.derivatives_reading.specs.Reading.{derivatives, answerOf}
-use Rattle.derivatives_reading.proofs.Theorems.{index-answers}
+use Rattle.derivatives_reading.proofs.ReadingLaws.{behind}
+use Rattle.derivatives_reading.proofs.Theorems.{index-answers, index-places}
 use Rattle.c_outcomes.specs.Lent.{isOf}
 use Rattle.c_outcomes.specs.Outcomes.{answerPart, formatPart, lengthPart, seqPart, placeFrom, readOutcome}
 use Rattle.c_outcomes.proofs.OutcomeLaws as any
@@ -41,14 +34,6 @@ number-low k = go (eqb k 53)
     go : (x : Bool) → cond x 60 64 < 256
     go true = omega arith
     go false = omega arith
-
--- the first bad half of the header beside its length
-head-near : (bs : List ℕ) (q : ℕ) → orElse (firstBad (header .before) 2 bs) None ≡ Half q → q < 24
-head-near bs q e = go (firstBad (header .before) 2 bs) refl e
-  where
-    go : (p : Place) → firstBad (header .before) 2 bs ≡ p → orElse p None ≡ Half q → q < 24
-    go None f h = let z : _≡_ {A = ℕ} 0 1 = cc in absurd (omega arith)
-    go (Half k) f h = firstBad-size (header .before) 2 bs q (f ∙ h)
 
 module _ (t : List ℕ) where
   abbrev n : ℕ
@@ -74,29 +59,9 @@ module _ (t : List ℕ) where
       let right = right-before n (leb 1 (length t)) (eqb (getD t 0 0) 27) (leb (lengthEnd header) (length t)) (lengthRight header t) (drop 4 (checksOf derivatives t)) refl h in
       right-length header law t right .1
 
-  -- beside 11 the body has a right length
-  body-near : n ≡ 11 → (q : ℕ) → firstBad (cellsOf (body header f)) 28 (body header f) ≡ Half q → q < 62
-  body-near e q bad =
-      let b = body header f in
-      let checks = indexChecks (market f) (kind f) (sent f) (version f) b in
-      let h = only-fails 11 (take 3 checks) (goodCells (cellsOf b) b) (drop 4 checks) refl refl (λ z. omega arith) (go (eqb (firstFail (outlineChecks header t)) 0) (sym (checks-apart derivatives t) ∙ e)) in
-      omega (arith, firstBad-inside (cellsOf b) 28 b q bad, two-lengths (length b) (h .0 .1 .1 .0))
-    where
-      go : (x : Bool) → cond x (firstFail (derivatives .checks f)) (firstFail (outlineChecks header t)) ≡ 11 → firstFail (derivatives .checks f) ≡ 11
-      go true q = q
-      go false q = absurd (omega (arith, q, fails-at-most 6 (outlineChecks header t) refl))
-
   -- and so a place is near the frame's first byte
   place-near : (q : ℕ) → placeOf derivatives n t ≡ Half q → q < 4294967295
-  place-near q e = go (eqb n 11) (eqb n 3) (eqb n 6) refl e
-    where
-      go : (x y z : Bool) → eqb n 11 ≡ x
-          → cond x (firstBad (cellsOf (body header f)) 28 (body header f)) (cond y (firstBad lengthCells (2 * lengthAt header) (lengthBytes header t)) (cond z (orElse (firstBad (header .before) 2 (drop 1 f)) None) None)) ≡ Half q
-          → q < 4294967295
-      go true y z i p = omega (arith, body-near (eqb-true n 11 i) q p)
-      go false true z i p = omega (arith, firstBad-size lengthCells (2 * lengthAt header) (lengthBytes header t) q p)
-      go false false true i p = omega (arith, head-near (drop 1 f) q p)
-      go false false false i p = let z : _≡_ {A = ℕ} 0 1 = cc in absurd (omega arith)
+  place-near q e = omega (arith, index-places t .within q (place-at derivatives law behind t n (answer-number derivatives t) ∙ e) .1)
 
   -- the answer to any bytes has room in an outcome
   pub tells : Tellable (answerOf t)

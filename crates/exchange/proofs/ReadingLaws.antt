@@ -3,7 +3,7 @@ use Prim.Native.Nat.{ℕ, _*_, _≤_}
 use mathlib.Core.Path.{_≡_, refl, sym, ap, _∙_}
 use mathlib.Core.Bool.{Bool, true, false, cond}
 use mathlib.Core.List.{List, [], _∷_, _++_}
-use mathlib.Core.Logic.{_↔_, _⊎_, inl, inr}
+use mathlib.Core.Logic.{_⊎_, inl, inr}
 use native.Mathlib.Omega.{arith}
 use lib.Dec.{eqb, leb}
 use borrow.Author.Tests.{eqb-true, ne-eqb}
@@ -11,11 +11,10 @@ use Rattle.digits.proofs.Bools.{and-left, and-right, and-both}
 use Rattle.digits.specs.declared.halves.Place.{Place}
 use Rattle.digits.specs.declared.halves.Place.the-variants.{None}
 use Rattle.layout.specs.Places.{firstBad}
-use Rattle.layout.specs.Checks.{Check, must, firstFail, allHold}
+use Rattle.layout.specs.Checks.{Check, must, firstFail}
 use Rattle.layout.proofs.CheckLaws.{numbered, firstFail-append, none-fails, all-hold}
 use Rattle.answers.specs.Answers.{named, answerNumber, placeValues}
 use Rattle.answers.specs.declared.Frame.{Frame}
-use Rattle.answers.specs.declared.Answer.{Answer}
 use Rattle.answers.specs.declared.Answer.the-variants.{NoFrame, Refused}
 use Rattle.frame.specs.Header.{Header, lengthOf, own, body, start, outlineChecks, outlinePlace, Outlined}
 use Rattle.frame.proofs.HeaderLaws.{outlined-passes, passes-outlined}

@@ -1,26 +1,25 @@
 -- An exchange's reading is sound, so the laws of a walk hold of its lines: a whole frame stands within the bytes, a reading waits for no more
 -- than the longest frame, and bytes that follow take no answer and no message back.
-use Prim.Native.Nat.{ℕ, _+_, _*_, _≤_, _<_}
+use Prim.Native.Nat.{ℕ, _*_, _≤_, _<_}
 use mathlib.Core.Path.{_≡_, refl, sym, ap, _∙_}
 use mathlib.Core.Bool.{Bool, true, false, cond, _&&_, _||_}
 use mathlib.Core.List.{List, [], _∷_, _++_}
 use mathlib.Core.Logic.{_⊎_, inl, inr}
 use native.Mathlib.Omega.{arith}
-use lib.ListN.{length, getD, take, drop}
+use lib.ListN.{length, getD, take}
 use lib.Dec.{eqb, leb}
-use borrow.Author.Tests.{eqb-true, eqb-false, eq-eqb, ne-eqb, leb-true, leb-false, le-leb, lt-leb}
-use Rattle.digits.specs.declared.halves.Place.{Place}
+use borrow.Author.Tests.{eqb-true, eqb-false, eq-eqb, ne-eqb, leb-true, leb-false, lt-leb}
 use Rattle.digits.specs.declared.halves.Place.the-variants.{None}
 use Rattle.digits.proofs.Bools.{no-false}
 use Rattle.layout.specs.Places.{firstBad}
-use Rattle.layout.specs.Checks.{Check, must, firstFail, allHold}
+use Rattle.layout.specs.Checks.{firstFail}
 use Rattle.layout.proofs.CheckLaws.{only-fails}
 use Rattle.answers.specs.Answers.{named, answerNumber, answerLength}
 use Rattle.answers.specs.declared.Answer.{Answer}
 use Rattle.answers.specs.declared.Answer.the-variants.{NoFrame}
-use Rattle.frame.specs.Header.{Header, lengthAt, lengthEnd, start, lengthBytes, lengthCells, lengthOf, own, body, headBad, headGood, lengthRight, lastChecks, outlineChecks, Outlined, front, rear}
+use Rattle.frame.specs.Header.{Header, lengthAt, lengthEnd, start, lengthBytes, lengthCells, lengthOf, own, body, headBad, headGood, lengthRight, lastChecks, outlineChecks, front, rear}
 use Rattle.frame.specs.Codec.{Codec, HeaderLaw, valuesOf}
-use Rattle.frame.proofs.HeaderLaws.{right-length, outlined-passes, passes-outlined, within-line, least-length}
+use Rattle.frame.proofs.HeaderLaws.{right-length, passes-outlined, within-line, least-length}
 use Rattle.frame.proofs.OutlineSteps.{fails-empty, fails-first, fails-header, fails-length, fails-whole, passed-whole, longer, more-first, more-bytes, more-right, more-length, more-own}
 use Rattle.walk.specs.Walk.{isWhole}
 use Rattle.walk.specs.Answers.{answering}

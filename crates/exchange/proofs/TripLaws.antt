@@ -1,21 +1,20 @@
 -- Acceptance exactly by the checks, the message that the bytes mean, and both round trips through the reading; once for any exchange and codec.
-use Prim.Native.Nat.{ℕ, _≤_}
-use mathlib.Core.Path.{_≡_, refl, sym, ap, ap₂, _∙_}
-use mathlib.Core.Bool.{Bool, true, false, cond, _&&_}
+use Prim.Native.Nat.{ℕ}
+use mathlib.Core.Path.{_≡_, sym, ap, ap₂, _∙_}
+use mathlib.Core.Bool.{Bool, true, cond}
 use mathlib.Core.List.{List, _++_}
 use lib.ListN.{length, drop}
-use lib.Dec.{eqb}
-use borrow.Author.Tests.{eqb-true, eq-eqb, le-leb}
+use borrow.Author.Tests.{eq-eqb, le-leb}
 use Rattle.layout.specs.Checks.{firstFail}
 use Rattle.answers.specs.Answers.{named, answerNumber}
 use Rattle.answers.specs.declared.Frame.{Frame}
 use Rattle.answers.specs.declared.Answer.the-variants.{Accepted}
-use Rattle.frame.specs.Header.{Header, lengthOf, own, body, front, rear}
+use Rattle.frame.specs.Header.{Header, own, body, front, rear}
 use Rattle.frame.specs.Writing.{writtenOver}
-use Rattle.frame.specs.Codec.{Codec, valuesOf, Reads, legal, frameOf, Lawful}
+use Rattle.frame.specs.Codec.{Codec, valuesOf, Reads, frameOf, Lawful}
 use Rattle.frame.proofs.HeaderLaws.{length-own}
 use Rattle.frame.proofs.CodecLaws.{own-frameOf, read-written, written-read, legal-read}
-use Rattle.exchange.specs.Reading.{Exchange, Behind, checksOf, placeOf, frameAt, answerBy}
+use Rattle.exchange.specs.Reading.{Exchange, checksOf, placeOf, frameAt, answerBy}
 use Rattle.exchange.specs.Trips.{messageBy, Speaks, Trips}
 use Rattle.exchange.proofs.NumberLaws.{named-accepted}
 use Rattle.exchange.proofs.ReadingLaws.{answer-number, checks-outlined, accepted-outlined}

@@ -1,12 +1,12 @@
 -- Where a reading says that the bad digit is.
-use Prim.Native.Nat.{ℕ, _*_}
+use Prim.Native.Nat.{ℕ, _*_, _≤_, _<_}
 use mathlib.Core.Path.{_≡_}
 use mathlib.Core.Bool.{false}
 use mathlib.Core.List.{List}
 use lib.ListN.{drop}
 use Rattle.digits.specs.Packed.{goodField}
 use Rattle.digits.specs.Halves.{isNone, Lowest}
-use Rattle.digits.specs.declared.halves.Place.the-variants.{None}
+use Rattle.digits.specs.declared.halves.Place.the-variants.{None, Half}
 use Rattle.layout.specs.Places.{badHalf}
 use Rattle.answers.specs.Answers.{answerNumber, answerPlace}
 use Rattle.frame.specs.Header.{Header, lengthAt, start, lengthBytes, lengthCells, headCells, own, body}
@@ -25,3 +25,5 @@ pub record PlaceSays {H : Header} (E : Exchange H) (t : List ℕ) : Type 0 where
   pub body-cause : answerNumber (answerBy E t) ≡ 11 → isNone (answerPlace (answerBy E t)) ≡ false
   -- beside any other number none
   pub no-other : (answerNumber (answerBy E t) ≡ 3 → ⊥) → (answerNumber (answerBy E t) ≡ 6 → ⊥) → (answerNumber (answerBy E t) ≡ 11 → ⊥) → answerPlace (answerBy E t) ≡ None
+  -- and it lies within a frame, behind its first byte
+  pub within : (p : ℕ) → answerPlace (answerBy E t) ≡ Half p → (2 ≤ p) × (p < 2 * H .most)

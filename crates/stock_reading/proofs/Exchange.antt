@@ -1,7 +1,6 @@
--- The stock exchange as one of the exchanges: its own checks behind the outline. So the laws of a reading hold of it.
+-- The stock exchange is one of the exchanges, so the laws of a reading hold of it.
 use Prim.Native.Nat.{ℕ}
-use mathlib.Core.Path.{_≡_, refl, sym, ap, _∙_, subst}
-use mathlib.Core.Bool.{Bool}
+use mathlib.Core.Path.{_≡_, refl}
 use mathlib.Core.List.{List, _++_}
 use native.Mathlib.Omega.{arith}
 use lib.ListN.{length, take, drop}
@@ -9,21 +8,13 @@ use lib.Dec.{eqb}
 use borrow.Author.Tests.{eqb-true}
 use Rattle.layout.specs.Cells.{size, goodCells}
 use Rattle.layout.proofs.CheckLaws.{only-fails}
-use Rattle.exchange.specs.Reading.{Exchange, Behind, answerBy}
+use Rattle.exchange.specs.Reading.{Behind, answerBy}
 use Rattle.exchange.specs.Trips as common
-use Rattle.stock_frame.specs.Outline.{header, body, business, format, version, sequence}
+use Rattle.stock_frame.specs.Outline.{body, business, format, version}
 use Rattle.stock_frame.specs.Format.{bodyChecks}
 use Rattle.stock_frame.specs.Codec.{Codec}
 use Rattle.stock_frame.proofs.CodecLaws.{asCommon}
-use Rattle.stock_reading.specs.Reading.{formatOf, kindChecks, checks, answerOf, messageBy}
-
-abbrev pub stock : Exchange header
-stock = record {
-  checks = λ f. kindChecks (business f) (format f) (version f) ++ bodyChecks (formatOf (format f)) (body f);
-  cells = λ f. formatOf (format f) .cells (body f);
-  format = format;
-  seq = sequence;
-}
+use Rattle.stock_reading.specs.Reading.{formatOf, kindChecks, stock, checks, answerOf, messageBy}
 
 -- its answers and its messages are those of the common reading
 pub answer-stock : (t : List ℕ) → answerBy stock t ≡ answerOf t

@@ -1,5 +1,5 @@
 -- The checks on a header, for the formats of the list: 7, 8, or the body of the format that its six digits name.
-use Prim.Native.Nat.{ℕ, _+_, _-_, _/_, _%_, _<_}
+use Prim.Native.Nat.{ℕ, _+_, _/_, _%_, _<_}
 use mathlib.Core.Path.{_≡_, refl, sym, ap, ap₂, _∙_}
 use mathlib.Core.Bool.{Bool, true, false, _&&_}
 use mathlib.Core.List.{List, [], _∷_, _++_}

@@ -7,8 +7,8 @@ use Rattle.answers.specs.declared.Answer.{Answer}
 use Rattle.answers.specs.Answers.{answerNumber, answerLength}
 use Rattle.exchange.proofs.SoundLaws as common
 use Rattle.stock_frame.proofs.OutlineLaws.{header-law}
-use Rattle.stock_reading.specs.Reading.{answerOf}
-use Rattle.stock_reading.proofs.Exchange.{stock, answer-stock, behind}
+use Rattle.stock_reading.specs.Reading.{stock, answerOf}
+use Rattle.stock_reading.proofs.Exchange.{answer-stock, behind}
 
 module _ (t : List ℕ) where
   -- an answer that is none of 1 to 5 speaks of a frame that stands within the bytes

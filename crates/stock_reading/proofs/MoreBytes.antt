@@ -1,6 +1,6 @@
 -- More bytes behind it take no answer and no message back: only "too few bytes yet" may change.
 use Prim.Native.Nat.{ℕ}
-use mathlib.Core.Path.{_≡_, sym, ap, _∙_}
+use mathlib.Core.Path.{_≡_, sym, _∙_}
 use mathlib.Core.List.{List, _++_}
 use lib.Dec.{eqb}
 use Rattle.answers.specs.Answers.{answerNumber}
@@ -12,8 +12,8 @@ use Rattle.exchange.proofs.SoundLaws as common
 use Rattle.stock_frame.specs.Codec.{Codec}
 use Rattle.stock_frame.proofs.OutlineLaws.{header-law}
 use Rattle.stock_frame.proofs.CodecLaws.{asCommon}
-use Rattle.stock_reading.specs.Reading.{answerOf, messageBy}
-use Rattle.stock_reading.proofs.Exchange.{stock, answer-stock, message-stock, behind}
+use Rattle.stock_reading.specs.Reading.{stock, answerOf, messageBy}
+use Rattle.stock_reading.proofs.Exchange.{answer-stock, message-stock, behind}
 
 module _ (t u : List ℕ) (settled : answerOf t ≡ NoFrame 2 None → ⊥) where
   is-settled : answerNumber (answerBy stock t) ≡ 2 → ⊥

@@ -3,7 +3,6 @@ use mathlib.Core.List.{List}
 use Prim.Native.Nat.{ℕ}
 use mathlib.Core.Path.{_≡_}
 use Rattle.layout.specs.Checks.{firstFail}
-use Rattle.answers.specs.Answers.{answerNumber, answerLength}
 use Rattle.answers.specs.Before.{Said, said, unplaced}
 use Rattle.stock_frame.specs.Outline.{lengthOf, own, format, sequence}
 use Rattle.stock_reading.specs.Reading.{checks, answerOf}

@@ -1,23 +1,22 @@
 -- Where a reading says that the bad digit is.
-use Prim.Native.Nat.{ℕ, _+_, _*_, _≤_, _<_}
+use Prim.Native.Nat.{ℕ, _*_, _≤_, _<_}
 use mathlib.Core.Path.{_≡_}
-use mathlib.Core.Bool.{Bool, false}
+use mathlib.Core.Bool.{false}
 use mathlib.Core.List.{List}
 use lib.ListN.{drop}
 use Rattle.digits.specs.Packed.{goodField}
 use Rattle.digits.specs.Halves.{isNone, Lowest}
-use Rattle.digits.specs.declared.halves.Place.{Place}
 use Rattle.digits.specs.declared.halves.Place.the-variants.{None, Half}
 use Rattle.layout.specs.Cells.{Cell}
 use Rattle.layout.specs.Places.{badHalf}
 use Rattle.answers.specs.Answers.{answerNumber, answerPlace}
-use Rattle.stock_frame.specs.Outline.{lengthBytes, lengthCells, lengthOf, own, body, format, kindCells}
+use Rattle.stock_frame.specs.Outline.{lengthBytes, lengthCells, own, body, kindCells}
 use Rattle.stock_frame.specs.Format.{bodyHalf}
-use Rattle.stock_reading.specs.Reading.{formatOf, answerOf}
+use Rattle.stock_reading.specs.Reading.{stock, answerOf}
 
 -- the cells of the body that the format of a frame's header has
 abbrev pub bodyCells : List ℕ → List Cell
-bodyCells t = formatOf (format (own t)) .cells (body (own t))
+bodyCells t = stock .cells (own t)
 
 -- the place beside the answer to any bytes
 pub record PlaceSays (t : List ℕ) : Type 0 where

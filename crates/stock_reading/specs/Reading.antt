@@ -1,15 +1,15 @@
 -- What a reading may say of the bytes from a place: the checks in their order, and the message of an accepted frame.
-use Prim.Native.Nat.{ℕ, _+_}
+use Prim.Native.Nat.{ℕ}
 use mathlib.Core.Bool.{Bool, cond, _&&_}
 use mathlib.Core.List.{List, [], _∷_, _++_}
-use lib.ListN.{length}
 use lib.Dec.{eqb}
-use Rattle.layout.specs.Places.{firstBad}
 use Rattle.layout.specs.Checks.{Check, must, firstFail}
 use Rattle.digits.specs.declared.halves.Place.{Place}
 use Rattle.answers.specs.Answers.{named}
-use Rattle.stock_frame.specs.Outline.{lengthOf, own, body, business, format, version, sequence, outlineChecks, outlinePlace}
-use Rattle.stock_frame.specs.Format.{Format, valuesOf, bodyChecks, bodyHalf}
+use Rattle.exchange.specs.Reading as common
+use Rattle.exchange.specs.Reading.{Exchange, checksOf, frameAt}
+use Rattle.stock_frame.specs.Outline.{header, own, body, business, format, version, sequence}
+use Rattle.stock_frame.specs.Format.{Format, valuesOf, bodyChecks}
 use Rattle.stock_frame.specs.Formats.{isOneOf, firstOf}
 use Rattle.stock_frame.specs.Codec.{Codec}
 use Rattle.answers.specs.declared.Answer.{Answer}
@@ -41,24 +41,27 @@ kindChecks business format version =
     ∷ must 8 (eqb version (formatOf format .version))
     ∷ []
 
--- the rules' table: checks 2 to 6, checks 7 and 8, and checks 9 to 13 of the format
+-- the stock exchange: behind its header checks 7 and 8, and checks 9 to 13 of the format
+abbrev pub stock : Exchange header
+stock = record {
+  checks = λ f. kindChecks (business f) (format f) (version f) ++ bodyChecks (formatOf (format f)) (body f);
+  cells = λ f. formatOf (format f) .cells (body f);
+  format = format;
+  seq = sequence;
+}
+
+-- the rules' table: checks 2 to 6 of the outline, and then those
 unfoldable pub checks : List ℕ → List Check
-checks t =
-    let f = own t in
-    outlineChecks t ++ (kindChecks (business f) (format f) (version f) ++ bodyChecks (formatOf (format f)) (body f))
+checks t = checksOf stock t
 
 -- where the bad digit is that an answer speaks of, in halves from the frame's first byte: beside 11 in the packed fields of the body,
 -- beside 3 and 6 in the outline; beside no other
 abbrev pub placeOf : ℕ → List ℕ → Place
-placeOf n t =
-    let b = body (own t) in
-    cond (eqb n 11) (firstBad (formatOf (format (own t)) .cells b) bodyHalf b) (outlinePlace n t)
+placeOf n t = common.placeOf stock n t
 
 -- the answer: the first check that fails, with the place of the bad digit that it speaks of; or acceptance
 unfoldable pub answerOf : List ℕ → Answer
-answerOf t =
-    let n = firstFail (checks t) in
-    named n (record { format = format (own t); seq = sequence (own t); length = lengthOf t }) (placeOf n t)
+answerOf t = let n = firstFail (checks t) in named n (frameAt stock t) (placeOf n t)
 
 -- the message of an accepted frame of a codec's format; of anything else, none
 unfoldable pub messageBy : {M : Type 0} → Codec M → M → List ℕ → M
