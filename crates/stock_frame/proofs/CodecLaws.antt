@@ -1,6 +1,6 @@
 -- Both round trips, once for every format: reading a written frame gives the message, writing a read message gives the bytes.
 use Prim.Native.Nat.{ℕ, _+_, _^_, _≤_, _<_}
-use mathlib.Core.Path.{_≡_, refl, sym, ap, _∙_}
+use mathlib.Core.Path.{_≡_, refl, sym, _∙_}
 use mathlib.Core.Bool.{Bool, true}
 use mathlib.Core.List.{List, [], _∷_, _++_}
 use native.Mathlib.Omega.{arith}
@@ -10,10 +10,10 @@ use borrow.Author.Tests.{ltb-true, lt-ltb, le-leb, eq-eqb, eqb-true}
 use Rattle.digits.specs.Tests.{allOf}
 use Rattle.digits.proofs.Bools.{and-right, no-false}
 use Rattle.digits.proofs.TestLaws.{holds, all, _also_, together}
-use Rattle.layout.specs.Cells.{size, fits, encode}
+use Rattle.layout.specs.Cells.{size, goodCells, fits, encode}
 use Rattle.frame.specs.Codec as common
 use Rattle.frame.proofs.CodecLaws as laws
-use Rattle.stock_frame.specs.Outline.{header, own, body, business, format, version, sequence, kindValues, kindCells}
+use Rattle.stock_frame.specs.Outline.{header, own, body, version, kindValues, kindCells}
 use Rattle.stock_frame.specs.Format.{Format, valuesOf, ranged, around}
 use Rattle.stock_frame.specs.Codec.{Codec, legalTests, legal, frameOf}
 pub use Rattle.stock_frame.specs.Reads.{Reads}
@@ -97,20 +97,35 @@ four-fit (a ∷ b ∷ c ∷ []) h = absurd (no-false (and-right (ltb c 100) _ (a
 four-fit (a ∷ b ∷ c ∷ d ∷ e ∷ ks) h =
     absurd (no-false (and-right (ltb d (10 ^ 8)) _ (and-right (ltb c 100) _ (and-right (ltb b 100) _ (and-right (ltb a 100) _ h)))))
 
--- a body that the common rules allow is one that its format allows
-module _ {M : Type 0} (C : Codec M) (vs ks b : List ℕ) (a : common.Allowed (asCommon C) vs ks b) where
+-- the common rules on a header's numbers and a body are those of the format by their names
+module _ (F : Format) (ks b : List ℕ) where
   abbrev tests : List Bool
-  tests = commonRules (C .form) ks (length b) (valuesOf (C .form) b)
+  tests = commonRules F ks (length b) (valuesOf F b)
 
-  allowed-bodied : Bodied (C .form) b
-  allowed-bodied = record {
-    within-range = holds tests (a .ruled) 3;
-    levelled = holds tests (a .ruled) 4;
-    sized = a .sized;
-    good-digits = a .good-digits;
-    good-times = holds tests (a .ruled) 5;
-    good-fields = holds tests (a .ruled) 6;
+  pub rules-head : allOf tests ≡ true → (getD ks 0 0 ≡ 1) × (getD ks 1 0 ≡ F .number) × (getD ks 2 0 ≡ F .version)
+  rules-head r = (eqb-true (getD ks 0 0) 1 (holds tests r 0), eqb-true (getD ks 1 0) (F .number) (holds tests r 1), eqb-true (getD ks 2 0) (F .version) (holds tests r 2))
+
+  pub rules-bodied : eqb (size (F .cells b)) (length b) ≡ true → goodCells (F .cells b) b ≡ true → allOf tests ≡ true → Bodied F b
+  rules-bodied s g r = record {
+    within-range = holds tests r 3;
+    levelled = holds tests r 4;
+    sized = s;
+    good-digits = g;
+    good-times = holds tests r 5;
+    good-fields = holds tests r 6;
   }
+
+  pub bodied-rules : getD ks 0 0 ≡ 1 → getD ks 1 0 ≡ F .number → getD ks 2 0 ≡ F .version → Bodied F b → allOf tests ≡ true
+  bodied-rules bu fm ve o =
+      together tests
+      (eq-eqb (getD ks 0 0) 1 bu
+      also eq-eqb (getD ks 1 0) (F .number) fm
+      also eq-eqb (getD ks 2 0) (F .version) ve
+      also o .within-range
+      also o .levelled
+      also o .good-times
+      also o .good-fields
+      also all)
 
 module _ {M : Type 0} (C : Codec M) (Shaped : M → Type 0) (law : Lawful C Shaped) where
   -- ---- a message is legal by the common tests exactly where it is by the stock exchange's
@@ -129,7 +144,7 @@ module _ {M : Type 0} (C : Codec M) (Shaped : M → Type 0) (law : Lawful C Shap
       also legal-tidy C m l
       also all)
 
-  common-legal : (m : M) → common.legal (asCommon C) m ≡ true → legal C m ≡ true
+  pub common-legal : (m : M) → common.legal (asCommon C) m ≡ true → legal C m ≡ true
   common-legal m l =
       let ks : List ℕ = 1 ∷ C .form .number ∷ C .form .version ∷ C .seq m ∷ [] in
       let rules = laws.legal-rules (asCommon C) m l in
@@ -153,55 +168,37 @@ module _ {M : Type 0} (C : Codec M) (Shaped : M → Type 0) (law : Lawful C Shap
     message-values = λ m s l. law .message-values m s (common-legal m l);
     before-message = λ vs ks b a. none-fit vs (a .front-fits);
     behind-message = λ vs ks b a.
-        let t = commonRules (C .form) ks (length b) (valuesOf (C .form) b) in
-        (λ i.
-        sym (eqb-true (getD ks 0 0) 1 (holds t (a .ruled) 0)) i
-        ∷ sym (eqb-true (getD ks 1 0) (C .form .number) (holds t (a .ruled) 1)) i
-        ∷ sym (eqb-true (getD ks 2 0) (C .form .version) (holds t (a .ruled) 2)) i
-        ∷ law .seq-message (getD ks 3 0) (valuesOf (C .form) b) i
-        ∷ [])
+        let head = rules-head (C .form) ks b (a .ruled) in
+        (λ i. sym (head .0) i ∷ sym (head .1) i ∷ sym (head .2) i ∷ law .seq-message (getD ks 3 0) (valuesOf (C .form) b) i ∷ [])
         ∙ four-fit ks (a .rear-fits);
-    cells-message = λ vs ks b a. law .cells-message (getD ks 3 0) b (allowed-bodied C vs ks b a);
-    values-message = λ vs ks b a. law .values-message (getD ks 3 0) b (allowed-bodied C vs ks b a);
-    tidy-message = λ vs ks b a. law .tidy-message (getD ks 3 0) b (allowed-bodied C vs ks b a);
-    shaped-message = λ vs ks b a. law .shaped-message (getD ks 3 0) b (allowed-bodied C vs ks b a);
+    cells-message = λ vs ks b a. law .cells-message (getD ks 3 0) b (bodied ks b a);
+    values-message = λ vs ks b a. law .values-message (getD ks 3 0) b (bodied ks b a);
+    tidy-message = λ vs ks b a. law .tidy-message (getD ks 3 0) b (bodied ks b a);
+    shaped-message = λ vs ks b a. law .shaped-message (getD ks 3 0) b (bodied ks b a);
   }
+    where
+      bodied : (ks b : List ℕ) {vs : List ℕ} → common.Allowed (asCommon C) vs ks b → Bodied (C .form) b
+      bodied ks b a = rules-bodied (C .form) ks b (a .sized) (a .good-digits) (a .ruled)
 
   -- ---- a frame that the rules allow, in both words
-  reads-common : (t : List ℕ) (m : M) → Reads C t m → common.Reads (asCommon C) t m
+  pub reads-common : (t : List ℕ) (m : M) → Reads C t m → common.Reads (asCommon C) t m
   reads-common t m rd = record {
     outlined = rd .outlined;
     sized = rd .bodied .sized;
     good-digits = rd .bodied .good-digits;
-    ruled =
-        together (commonRules (C .form) (kindValues (own t)) (length (body (own t))) (valuesOf (C .form) (body (own t))))
-        (eq-eqb (business (own t)) 1 (rd .is-business)
-        also eq-eqb (format (own t)) (C .form .number) (rd .is-format)
-        also eq-eqb (version (own t)) (C .form .version) (rd .is-version)
-        also rd .bodied .within-range
-        also rd .bodied .levelled
-        also rd .bodied .good-times
-        also rd .bodied .good-fields
-        also all);
+    ruled = bodied-rules (C .form) (kindValues (own t)) (body (own t)) (rd .is-business) (rd .is-format) (rd .is-version) (rd .bodied);
     meant = rd .meant;
   }
 
-  common-reads : (t : List ℕ) (m : M) → common.Reads (asCommon C) t m → Reads C t m
+  pub common-reads : (t : List ℕ) (m : M) → common.Reads (asCommon C) t m → Reads C t m
   common-reads t m rd =
-      let tests = commonRules (C .form) (kindValues (own t)) (length (body (own t))) (valuesOf (C .form) (body (own t))) in
+      let head = rules-head (C .form) (kindValues (own t)) (body (own t)) (rd .ruled) in
       record {
         outlined = rd .outlined;
-        is-business = eqb-true (business (own t)) 1 (holds tests (rd .ruled) 0);
-        is-format = eqb-true (format (own t)) (C .form .number) (holds tests (rd .ruled) 1);
-        is-version = eqb-true (version (own t)) (C .form .version) (holds tests (rd .ruled) 2);
-        bodied = record {
-          within-range = holds tests (rd .ruled) 3;
-          levelled = holds tests (rd .ruled) 4;
-          sized = rd .sized;
-          good-digits = rd .good-digits;
-          good-times = holds tests (rd .ruled) 5;
-          good-fields = holds tests (rd .ruled) 6;
-        };
+        is-business = head .0;
+        is-format = head .1;
+        is-version = head .2;
+        bodied = rules-bodied (C .form) (kindValues (own t)) (body (own t)) (rd .sized) (rd .good-digits) (rd .ruled);
         meant = rd .meant;
       }
 
@@ -218,9 +215,6 @@ module _ {M : Type 0} (C : Codec M) (Shaped : M → Type 0) (law : Lawful C Shap
 
   -- ---- writing a read message gives the bytes
   module _ (t : List ℕ) (m : M) (rd : Reads C t m) where
-    pub seq-read : C .seq m ≡ sequence (own t)
-    seq-read = ap (C .seq) (rd .meant) ∙ law .seq-message (sequence (own t)) (valuesOf (C .form) (body (own t)))
-
     pub shaped-read : Shaped m
     shaped-read = laws.shaped-read (asCommon C) Shaped common-lawful t m (reads-common t m rd)
 

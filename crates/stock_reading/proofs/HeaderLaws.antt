@@ -11,7 +11,7 @@ use Rattle.digits.proofs.Bools.{and-both}
 use Rattle.digits.proofs.TestLaws.{holds}
 use Rattle.layout.specs.Checks.{Check, must, firstFail}
 use Rattle.answers.specs.Answers.{named}
-use Rattle.stock_frame.specs.Outline.{format, version}
+use Rattle.stock_frame.specs.Outline.{body, business, format, version}
 use Rattle.digits.specs.declared.halves.Place.{Place}
 use Rattle.digits.specs.declared.halves.Place.the-variants.{None}
 use Rattle.stock_frame.specs.Format.{Format, bodyChecks, bodyPlace, bodyAnswer, around}
@@ -23,7 +23,7 @@ use Rattle.stock_notices.specs.Notices.{five}
 use Rattle.stock_quotes.specs.Quotes.{six}
 use Rattle.stock_prices.specs.Prices.{twelve}
 use Rattle.stock_halts.specs.Halts.{nineteen}
-use Rattle.stock_reading.specs.Reading.{formats, formatOf, isFormat, kindChecks}
+use Rattle.stock_reading.specs.Reading.{formats, formatOf, isFormat, kindChecks, stock}
 use Rattle.stock_reading.specs.Steps.{kindOf, afterOutline}
 
 -- ---- the formats, each by its place in the list
@@ -83,6 +83,17 @@ header-known F listed b =
     header-passes 1 (F .number) (F .version) (bodyChecks (formatOf (F .number)) b) (named-format F listed .is-one)
     (eq-eqb (F .version) (formatOf (F .number) .version) (sym (same-version F listed)))
     ∙ ap (λ (G : Format). firstFail (bodyChecks G b)) (same-format F listed)
+
+-- the same of a frame's own bytes: its header is a format's exactly where it passes and names the format
+module _ (F : Format) (listed : Listed F formats) (f : List ℕ) where
+  pub frame-known : business f ≡ 1 → format f ≡ F .number → version f ≡ F .version → firstFail (stock .checks f) ≡ firstFail (bodyChecks F (body f))
+  frame-known bu fm ve =
+      (λ i. firstFail (kindChecks (bu i) (fm i) (ve i) ++ bodyChecks (formatOf (fm i)) (body f))) ∙ header-known F listed (body f)
+
+  pub frame-holds : firstFail (stock .checks f) ≡ 0 → format f ≡ F .number → (business f ≡ 1) × (version f ≡ F .version)
+  frame-holds p fm =
+      let h = header-holds (business f) (format f) (version f) (bodyChecks (formatOf (format f)) (body f)) p in
+      (h .0, h .2 ∙ ap (λ (n : ℕ). formatOf n .version) fm ∙ same-version F listed)
 
 -- ---- what a header's six digits answer, and the body behind them
 module _ (kind seq : ℕ) (b : List ℕ) where

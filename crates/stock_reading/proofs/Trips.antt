@@ -1,33 +1,34 @@
 -- Acceptance exactly by the checks, the figures beside an answer, and both round trips through the reading of a line; once for any format.
-use Prim.Native.Nat.{ℕ, _≤_}
-use mathlib.Core.Path.{_≡_, refl, sym, ap, ap₂, _∙_}
+use Prim.Native.Nat.{ℕ}
+use mathlib.Core.Path.{_≡_, refl, sym, ap, _∙_}
 use mathlib.Core.Bool.{Bool, true, false, cond}
-use mathlib.Core.List.{List, [], _∷_, _++_}
+use mathlib.Core.List.{List, [], _∷_}
 use mathlib.Core.Logic.{_↔_}
-use lib.ListN.{length, drop}
+use native.Mathlib.Omega.{arith}
+use lib.ListN.{length, getD}
 use lib.Dec.{eqb, leb}
-use borrow.Author.Tests.{eqb-true, le-leb}
+use borrow.Author.Tests.{eq-eqb, eqb-true, eqb-false, leb-true, leb-false}
+use Rattle.layout.specs.Cells.{encode}
 use Rattle.layout.specs.Checks.{firstFail}
-use Rattle.digits.specs.declared.halves.Place.{Place}
-use Rattle.answers.specs.Answers.{named, answerNumber, answerValues}
-use Rattle.stock_frame.specs.Outline.{lengthOf, own, body, business, format, version, sequence, outlineChecks, outlineOf}
-use Rattle.stock_frame.specs.Format.{valuesOf, bodyChecks}
+use Rattle.answers.specs.Answers.{answerNumber, answerValues, placeValues}
+use Rattle.exchange.specs.Trips as common
+use Rattle.exchange.specs.Trips.{Speaks}
+use Rattle.exchange.proofs.ReadingLaws as any
+use Rattle.exchange.proofs.TripLaws.{trips as trips-of}
+use Rattle.frame.proofs.CodecLaws as laws
+use Rattle.stock_frame.specs.Outline.{lengthOf, own, body, business, format, version, sequence, kindValues, outlineOf}
+use Rattle.stock_frame.specs.Format.{bodyChecks}
 use Rattle.stock_frame.specs.Writing.{writtenOver}
 use Rattle.stock_frame.specs.Codec.{Codec, frameOf}
-use Rattle.answers.specs.declared.Frame.{Frame}
-use Rattle.answers.specs.declared.Answer.the-variants.{Accepted, NoFrame, Refused}
-use Rattle.layout.proofs.CheckLaws.{numbered, firstFail-append}
+use Rattle.answers.specs.declared.Answer.the-variants.{Accepted}
 use Rattle.stock_frame.specs.declared.head.Outline.{Outline}
 use Rattle.stock_frame.specs.declared.head.Outline.the-variants.{Whole, Not}
 use Rattle.layout.specs.Checks.{allHold}
-use Rattle.stock_frame.specs.Reads.{Outlined, Reads}
-use Rattle.stock_frame.specs.Figures.{outlineNumber, outlineValues, beside}
-use Rattle.layout.proofs.CheckLaws.{none-fails, all-hold}
-use Rattle.stock_frame.proofs.FigureLaws.{number-named, values-named, fails-at-most}
+use Rattle.stock_frame.specs.Figures.{outlineNumber, outlineValues}
 use Rattle.stock_frame.proofs.FormatsLaws.{Listed}
-use Rattle.stock_frame.proofs.OutlineLaws.{passes-outlined, length-own}
+use Rattle.stock_frame.proofs.OutlineLaws.{kind-frame}
 use Rattle.stock_frame.proofs.FormatLaws.{bodied-passes, passes-bodied}
-use Rattle.stock_frame.proofs.CodecLaws.{Lawful, own-frameOf, read-written, seq-read, written-read, legal-read}
+use Rattle.stock_frame.proofs.CodecLaws.{Lawful, asCommon, rules-head, rules-bodied, bodied-rules, common-lawful, legal-seq, legal-common, common-legal, reads-common, common-reads}
 use Rattle.stock_notices.specs.Notices.{fiveCodec, noNotice, ShapedNotice}
 use Rattle.stock_notices.proofs.NoticeLaws.{notices-lawful}
 use Rattle.stock_quotes.specs.Quotes.{sixCodec, noQuote, ShapedQuote}
@@ -36,70 +37,52 @@ use Rattle.stock_prices.specs.Prices.{twelveCodec, noPrices, ShapedPrices}
 use Rattle.stock_prices.proofs.PriceLaws.{prices-lawful}
 use Rattle.stock_halts.specs.Halts.{nineteenCodec, noHalt, ShapedHalt}
 use Rattle.stock_halts.proofs.HaltLaws.{halts-lawful}
-use Rattle.stock_reading.specs.Reading.{formats, formatOf, isFormat, kindChecks, checks, placeOf, answerOf, messageBy}
+use Rattle.stock_reading.specs.Reading.{formats, formatOf, isFormat, stock, checks, placeOf, answerOf, messageBy}
 use Rattle.stock_reading.specs.Trips.{AnswerSays, Trips}
-use Rattle.stock_reading.proofs.HeaderLaws.{five-listed, six-listed, twelve-listed, nineteen-listed, same-version, header-holds}
-use Rattle.stock_reading.proofs.ReadingLaws.{checks-body, message-hit, checks-outlined, answer-not}
-
--- ---- an answer's number is the first check that fails, and only acceptance has none
-pub answer-number : (t : List ℕ) → answerNumber (answerOf t) ≡ firstFail (checks t)
-unfolding answerOf
-answer-number t = number-named (firstFail (checks t)) (record { format = format (own t); seq = sequence (own t); length = lengthOf t }) (placeOf (firstFail (checks t)) t)
-
-named-accepted : (n : ℕ) (f g : Frame) (p : Place) → named n f p ≡ Accepted g → f ≡ g
-named-accepted n f g p e = go (eqb n 0) (leb n 5) e
-  where
-    go : (t u : Bool) → cond t (Accepted f) (cond u (NoFrame n p) (Refused n (f .length) p)) ≡ Accepted g → f ≡ g
-    go true u q = cc
-    go false true q = cc
-    go false false q = cc
-
--- no check answers 0
-checks-numbered : (t : List ℕ) → numbered (checks t) ≡ true
-unfolding checks
-checks-numbered t = refl
-
--- a frame is accepted exactly when every check of the rules' table holds
-pub accepted-exactly : (t : List ℕ) → (answerNumber (answerOf t) ≡ 0) ↔ allHold (checks t)
-accepted-exactly t = (λ p. all-hold (checks t) (checks-numbered t) (sym (answer-number t) ∙ p), λ h. answer-number t ∙ none-fails (checks t) h)
-
-checks-apart : (t : List ℕ) → firstFail (checks t) ≡ 0 → Outlined t
-unfolding checks
-checks-apart t p =
-    let after = kindChecks (business (own t)) (format (own t)) (version (own t)) ++ bodyChecks (formatOf (format (own t))) (body (own t)) in
-    passes-outlined t (go (firstFail (outlineChecks t)) (firstFail after) (eqb (firstFail (outlineChecks t)) 0) refl (sym (firstFail-append (outlineChecks t) after refl) ∙ p))
-  where
-    go : (n m : ℕ) (x : Bool) → eqb n 0 ≡ x → cond x m n ≡ 0 → n ≡ 0
-    go n m true e q = eqb-true n 0 e
-    go n m false e q = q
-
--- the header of an accepted frame names a format and its version
-header-accepted : (t : List ℕ) → firstFail (checks t) ≡ 0
-    → (business (own t) ≡ 1) × (isFormat (format (own t)) ≡ true) × (version (own t) ≡ formatOf (format (own t)) .version)
-header-accepted t z =
-    header-holds (business (own t)) (format (own t)) (version (own t)) (bodyChecks (formatOf (format (own t))) (body (own t)))
-    (sym (checks-outlined t (checks-apart t z)) ∙ z)
+use Rattle.stock_reading.proofs.Exchange.{behind}
+use Rattle.stock_reading.proofs.HeaderLaws.{five-listed, six-listed, twelve-listed, nineteen-listed, header-holds, frame-known, frame-holds}
+use Rattle.stock_reading.proofs.ReadingLaws.{answer-not}
 
 -- ---- the answer to any bytes
-checks-at-most : (t : List ℕ) → firstFail (checks t) ≤ 13
-unfolding checks
-checks-at-most t = fails-at-most 13 (checks t) refl
+module _ (t : List ℕ) where
+  -- an answer's number is the first check that fails
+  pub answer-number : answerNumber (answerOf t) ≡ firstFail (checks t)
+  unfolding answerOf checks
+  answer-number = any.answer-number stock t
 
-answer-values : (t : List ℕ) → answerValues (answerOf t)
-    ≡ beside (answerNumber (answerOf t)) (format (own t) ∷ sequence (own t) ∷ lengthOf t ∷ []) (lengthOf t) (placeOf (answerNumber (answerOf t)) t)
-unfolding answerOf
-answer-values t =
-    values-named (firstFail (checks t)) (record { format = format (own t); seq = sequence (own t); length = lengthOf t }) (placeOf (firstFail (checks t)) t)
-    ∙ ap (λ (n : ℕ). beside n (format (own t) ∷ sequence (own t) ∷ lengthOf t ∷ []) (lengthOf t) (placeOf n t)) (sym (answer-number t))
+  -- the header of an accepted frame names a format
+  format-accepted : firstFail (checks t) ≡ 0 → isFormat (format (own t)) ≡ true
+  unfolding checks
+  format-accepted z =
+      let f = own t in
+      let own-checks = sym (any.checks-outlined stock t (any.accepted-outlined stock t z)) ∙ z in
+      header-holds (business f) (format f) (version f) (bodyChecks (formatOf (format f)) (body f)) own-checks .1
 
-pub answer-says : (t : List ℕ) → AnswerSays t
-answer-says t = record {
-  exactly = accepted-exactly t;
-  format-is = λ p. header-accepted t (sym (answer-number t) ∙ p) .1;
-  first = answer-number t;
-  at-most = rw (answer-number t) (checks-at-most t);
-  values = answer-values t;
-}
+  abbrev n : ℕ
+  n = answerNumber (answerOf t)
+
+  says : common.AnswerSays stock t
+  says = any.answer-says stock behind t
+
+  pub answer-says : AnswerSays t
+  unfolding answerOf checks
+  answer-says = record {
+    exactly = says .exactly;
+    format-is = λ p. format-accepted (sym answer-number ∙ p);
+    first = says .first;
+    at-most = says .at-most;
+    values = go (eqb n 0) (leb n 5) refl refl;
+  }
+    where
+      go : (x y : Bool) → eqb n 0 ≡ x → leb n 5 ≡ y
+          → let p = placeValues (placeOf n t) in answerValues (answerOf t) ≡ cond x (format (own t) ∷ sequence (own t) ∷ lengthOf t ∷ []) (cond y p (lengthOf t ∷ p))
+      go true y e q = says .accepted-values (eqb-true n 0 e)
+      go false true e q = says .early-values (omega (arith, eqb-false n 0 e)) (leb-true n 5 q)
+      go false false e q = says .refused-values (leb-false n 5 q)
+
+  -- a frame is accepted exactly when every check of the rules' table holds
+  pub accepted-exactly : (answerNumber (answerOf t) ≡ 0) ↔ allHold (checks t)
+  accepted-exactly = answer-says .exactly
 
 -- where the outline is not whole, its number and its values are the answer's
 pub outline-answers : (t : List ℕ) → (outlineNumber (outlineOf t) ≡ 0 → ⊥)
@@ -112,57 +95,42 @@ outline-answers t h = go (outlineOf t) refl
         let same = answer-not t a e in
         (ap answerNumber (sym same) ∙ sym (ap outlineNumber e), ap answerValues (sym same) ∙ sym (ap outlineValues e))
 
--- ---- any codec whose format is in the list
+-- ---- any codec whose format is in the list: the exchange's checks on a frame of it are the codec's rules
+speaks : {M : Type 0} (C : Codec M) → Listed (C .form) formats → Speaks stock (asCommon C) (λ n. eqb n (C .form .number))
+speaks C listed = record {
+  passes = λ f s g r.
+      let head = rules-head (C .form) (kindValues f) (body f) r in
+      let o = rules-bodied (C .form) (kindValues f) (body f) s g r in
+      (frame-known (C .form) listed f (head .0) (head .1) (head .2) ∙ bodied-passes (C .form) (body f) o, eq-eqb (format f) (C .form .number) (head .1));
+  allows = λ f p h.
+      let fm = eqb-true (format f) (C .form .number) h in
+      let head = frame-holds (C .form) listed f p fm in
+      let o = passes-bodied (C .form) (body f) (sym (frame-known (C .form) listed f (head .0) fm (head .1)) ∙ p) in
+      (o .sized, o .good-digits, bodied-rules (C .form) (kindValues f) (body f) (head .0) fm (head .1) o);
+}
+
 module _ {M : Type 0} (C : Codec M) (Shaped : M → Type 0) (law : Lawful C Shaped) (none : M)
     (listed : Listed (C .form) formats) where
-  pub reads-accepted : (t : List ℕ) (m : M) → Reads C t m
-      → (answerOf t ≡ Accepted (record { format = C .form .number; seq = sequence (own t); length = lengthOf t })) × (messageBy C none t ≡ m)
-  unfolding answerOf
-  reads-accepted t m rd =
-      let zero = checks-body C none listed t (rd .outlined) (rd .is-business) (rd .is-format) (rd .is-version) ∙ bodied-passes (C .form) (body (own t)) (rd .bodied) in
-      let hit = message-hit C none listed t (rd .outlined) (rd .is-business) (rd .is-format) (rd .is-version) in (
-        (λ i. named (zero i) (record { format = rd .is-format i; seq = sequence (own t); length = lengthOf t }) (placeOf (zero i) t)),
-        sym hit ∙ ap (λ (n : ℕ). cond (eqb n 0) (C .message (sequence (own t)) (valuesOf (C .form) (body (own t)))) none) (bodied-passes (C .form) (body (own t)) (rd .bodied)) ∙ sym (rd .meant),
-      )
-
-  pub accepted-reads : (t : List ℕ) (f : Frame) → answerOf t ≡ Accepted f → f .format ≡ C .form .number → Reads C t (messageBy C none t)
-  unfolding answerOf
-  accepted-reads t f e n =
-      let z : firstFail (checks t) ≡ 0 = sym (answer-number t) ∙ ap answerNumber e in
-      let o = checks-apart t z in
-      let fm : format (own t) ≡ C .form .number =
-      ap (λ (x : Frame). x .format) (named-accepted (firstFail (checks t)) (record { format = format (own t); seq = sequence (own t); length = lengthOf t }) f (placeOf (firstFail (checks t)) t) e) ∙ n in
-      let h = header-accepted t z in
-      let bu = h .0 in
-      let ve = h .2 ∙ ap (λ (x : ℕ). formatOf x .version) fm ∙ same-version (C .form) listed in
-      let bz : firstFail (bodyChecks (C .form) (body (own t))) ≡ 0 = sym (checks-body C none listed t o bu fm ve) ∙ z in
-      record {
-        outlined = o;
-        is-business = bu;
-        is-format = fm;
-        is-version = ve;
-        bodied = passes-bodied (C .form) (body (own t)) bz;
-        meant =
-            sym (message-hit C none listed t o bu fm ve)
-            ∙ ap (λ (x : ℕ). cond (eqb x 0) (C .message (sequence (own t)) (valuesOf (C .form) (body (own t)))) none) bz;
-      }
+  of-any : common.Trips stock (asCommon C) (λ n. eqb n (C .form .number)) Shaped none
+  of-any = trips-of stock (asCommon C) (λ n. eqb n (C .form .number)) (speaks C listed) Shaped (common-lawful C Shaped law) none
 
   -- ---- the promises
   pub trips : Trips C Shaped none
+  unfolding answerOf messageBy checks
   trips = record {
-    means = accepted-reads;
-    accepts = reads-accepted;
+    means = λ t f e n. common-reads C Shaped law t (messageBy C none t) (of-any .means t f e (eq-eqb (f .format) (C .form .number) n));
+    accepts = λ t m rd.
+        let a = of-any .accepts t m (reads-common C Shaped law t m rd) in
+        (a .0 ∙ ap (λ (n : ℕ). Accepted (record { format = n; seq = sequence (own t); length = lengthOf t })) (rd .is-format), a .1);
     write-read = λ t f buf e n room.
-        let rd = accepted-reads t f e n in
-        let w = written-read C Shaped law t (messageBy C none t) rd in
-        ap₂ (λ (l : Bool) (x : List ℕ). writtenOver l x buf) (legal-read C Shaped law t (messageBy C none t) rd) w
-        ∙ ap (λ (l : Bool). cond l (own t ++ drop (length (own t)) buf) buf) (le-leb (length (own t)) (length buf) room);
+        let m = messageBy C none t in
+        let has = eq-eqb (f .format) (C .form .number) n in
+        let l = laws.legal-read (asCommon C) Shaped (common-lawful C Shaped law) t m (of-any .means t f e has) in
+        ap (λ (b : Bool). writtenOver b (frameOf C m) buf) (common-legal C Shaped law m l ∙ sym l) ∙ of-any .write-read t f buf e has room;
     read-write = λ m s l r.
-        let rd = read-written C Shaped law m s l r in
-        let a = reads-accepted (frameOf C m ++ r) m rd in
-        let seq = sym (seq-read C Shaped law (frameOf C m ++ r) m rd) in
-        let long = sym (length-own (frameOf C m ++ r) (rd .outlined)) ∙ ap length (own-frameOf C Shaped law m s l r) in
-        (a .0 ∙ (λ i. Accepted (record { format = C .form .number; seq = seq i; length = long i })), a .1);
+        let a = of-any .read-write m s (legal-common C Shaped law m l) r in
+        let kinds = kind-frame (C .form .number) (C .form .version) (C .seq m) (encode (C .cells m) (C .values m)) (law .number-fits) (law .version-fits) (legal-seq C m l) in
+        (a .0 ∙ ap (λ (ks : List ℕ). Accepted (record { format = getD ks 1 0; seq = getD ks 3 0; length = length (frameOf C m) })) kinds, a .1);
   }
 
 -- ---- the four formats
