@@ -5,6 +5,7 @@ pub mod ReadingLaws
 pub mod PlaceLaws
 pub mod Trips
 pub mod PlaceTheorems
+pub mod AsBefore
 pub mod EdgesHold
 pub mod MoreBytes
 pub mod Lengths

@@ -1,29 +1,20 @@
--- No frame's answer changed but for the place beside it, and the place is the lowest bad half of what its number speaks of.
+-- The place beside an answer is the lowest bad half of what its number speaks of: the law of any exchange, in the stock exchange's words.
 use Prim.Native.Nat.{ℕ}
 use mathlib.Core.Path.{_≡_, refl, sym, subst}
 use mathlib.Core.List.{List}
 use lib.ListN.{drop}
 use Rattle.digits.specs.Halves.{Lowest}
 use Rattle.layout.specs.Places.{badHalf}
-use Rattle.layout.specs.Checks.{firstFail}
 use Rattle.layout.proofs.PlaceLaws.{firstBad-lowest}
 use Rattle.answers.specs.Answers.{answerNumber, answerPlace}
-use Rattle.answers.proofs.BeforeLaws.{unplaced-named}
-use Rattle.stock_frame.specs.Outline.{lengthOf, own, format, sequence, kindCells}
+use Rattle.stock_frame.specs.Outline.{own, kindCells}
 use Rattle.exchange.proofs.PlaceLaws as common
 use Rattle.exchange.proofs.PlaceLaws.{place-at}
 use Rattle.stock_frame.proofs.OutlineLaws.{header-law}
 use Rattle.stock_reading.specs.Reading.{stock, checks, placeOf, answerOf}
-use Rattle.stock_reading.specs.Before.{AsBefore}
 use Rattle.stock_reading.specs.Places.{PlaceSays}
 use Rattle.stock_reading.proofs.Exchange.{behind}
 
--- ---- the answer without its place is the one before
-pub as-before : AsBefore
-unfolding answerOf
-as-before t = unplaced-named (firstFail (checks t)) (record { format = format (own t); seq = sequence (own t); length = lengthOf t }) (placeOf (firstFail (checks t)) t)
-
--- ---- the place beside it, by the laws of any exchange
 module _ (t : List ℕ) where
   pub place-is : answerPlace (answerOf t) ≡ placeOf (answerNumber (answerOf t)) t
   unfolding answerOf checks

@@ -64,7 +64,7 @@ pub record LevelEdges : Type 0 where
   pub reveal-11 : answerOf (quote 0x11 9) ≡ Refused 10 41 None
   pub reveal-03 : answerOf (quote 0x03 9) ≡ Refused 10 41 None
 
--- a frame around any body of format nineteen, twelve or five, by what its first bytes are
+-- a frame of format nineteen by its times, and one of format five by its category, each with an FF in a field that is not packed
 abbrev pub haltWith : List ℕ → List ℕ
 haltWith times = frameAround 19 1 1 (0xFF ∷ 0x32 ∷ 0x33 ∷ 0x34 ∷ 0x20 ∷ 0x20 ∷ times ++ (0x49 ∷ []))
 
