@@ -6,4 +6,5 @@ pub mod HeadSteps
 pub mod OutlineSteps
 pub mod PartLaws
 pub mod CloseLaws
+pub mod FigureLaws
 pub mod Determined

@@ -2,3 +2,4 @@
 pub mod Outline
 pub mod Steps
 pub mod Closing
+pub mod Figures

@@ -3,4 +3,5 @@ pub mod IndexLaws
 pub mod ReadSteps
 pub mod MessageLaws
 pub mod WriteSteps
+pub mod FigureLaws
 pub mod Determined

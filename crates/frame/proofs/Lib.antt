@@ -7,3 +7,4 @@ pub mod WriteLaws
 pub mod OutlineSteps
 pub mod LineSteps
 pub mod MessageLaws
+pub mod FigureLaws

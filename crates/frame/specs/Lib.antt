@@ -1,4 +1,5 @@
--- The common frame over any header, what a reading of an exchange answers, and its messages: definitions that the contracts cite.
+-- The common frame over any header, its messages, and what an outline and a writing tell: definitions that the contracts cite.
 pub mod Header
 pub mod Writing
 pub mod Codec
+pub mod Figures
