@@ -1,26 +1,35 @@
 -- What reading and writing of the derivatives exchange promise: the laws of any exchange, of its header and of index values.
-use Prim.Native.Nat.{ℕ}
-use mathlib.Core.Path.{_≡_, refl, ap, ap₂, _∙_}
+use Prim.Native.Nat.{ℕ, _+_}
+use mathlib.Core.Path.{_≡_, refl, sym, ap, ap₂, _∙_}
 use mathlib.Core.Bool.{Bool, true, false, _&&_}
-use mathlib.Core.List.{List, [], _∷_}
+use mathlib.Core.List.{List, [], _∷_, _++_}
 use native.Mathlib.Omega.{arith}
-use lib.ListN.{length}
+use lib.ListN.{length, getD}
 use lib.Dec.{eqb}
 use borrow.Author.Tests.{eq-eqb, eqb-true}
 use Rattle.digits.proofs.TestLaws.{holds, all, _also_, together}
 use Rattle.layout.specs.Checks.{firstFail}
 use Rattle.layout.proofs.CheckLaws.{none-fails, all-hold}
-use Rattle.frame.specs.Header.{body, front}
+use Rattle.answers.specs.declared.Frame.{Frame}
+use Rattle.answers.specs.declared.Answer.the-variants.{Accepted}
+use Rattle.frame.specs.Header.{own, body, front}
+use Rattle.frame.specs.Codec.{legal, frameOf}
+use Rattle.frame.proofs.CodecLaws.{own-frameOf, front-read}
+use Rattle.exchange.specs.Reading.{checksOf, placeOf, frameAt}
 use Rattle.exchange.specs.Trips.{Speaks, AnswerSays, Trips}
 use Rattle.exchange.specs.Places.{PlaceSays}
+use Rattle.exchange.proofs.NumberLaws.{named-accepted}
 use Rattle.exchange.proofs.ReadingLaws.{answer-says}
 use Rattle.exchange.proofs.TripLaws.{trips}
 use Rattle.exchange.proofs.PlaceLaws.{place-says}
 use Rattle.derivatives_frame.specs.Outline.{header, market, kind, sent, version}
 use Rattle.derivatives_frame.proofs.HeaderHolds.{law}
-use Rattle.derivatives_index.specs.Index.{known, versionOf, bodyLength, timed, ruled, cellsOf, valuesOf, indexChecks, indexCodec, noIndex, ShapedIndex}
+use Rattle.derivatives_index.specs.Index.{numberOf, known, versionOf, bodyLength, timed, ruled, cellsOf, valuesOf, indexChecks, indexCodec, noIndex, ShapedIndex}
+use Rattle.derivatives_index.specs.declared.index.Index.{Index}
 use Rattle.derivatives_index.proofs.IndexLaws.{index-lawful}
-use Rattle.derivatives_reading.specs.Reading.{derivatives, isIndex}
+use Rattle.derivatives_index.proofs.FigureLaws.{length-index}
+use Rattle.derivatives_reading.specs.Reading.{derivatives, isIndex, answerOf, indexIn}
+use Rattle.derivatives_reading.specs.Told.{IndexSays}
 use Rattle.derivatives_reading.proofs.ReadingLaws.{behind, one-of-two, size-cells}
 
 -- the exchange's checks are the rules of index values
@@ -53,3 +62,29 @@ index-trips = trips derivatives indexCodec isIndex index-speaks ShapedIndex inde
 -- the place beside an answer is the lowest bad half of what it speaks of
 pub index-places : (t : List ℕ) → PlaceSays derivatives t
 index-places = place-says derivatives law behind
+
+-- what an accepted frame is called, and what reading a written index value tells
+accepted-is : (t : List ℕ) (f : Frame) → answerOf t ≡ Accepted f → isIndex (f .format) ≡ true
+unfolding answerOf
+accepted-is t f e =
+    let n = firstFail (checksOf derivatives t) in
+    let same = named-accepted n (frameAt derivatives t) (placeOf derivatives n t) f e in
+    ap (λ (x : Frame). isIndex (x .format)) (sym same) ∙ one-of-two (kind (own header t))
+
+module _ (m : Index) (s : ShapedIndex m) (l : legal indexCodec m ≡ true) where
+  -- the header of a written frame has the message's own numbers
+  front-written : front header (frameOf indexCodec m) ≡ indexCodec .before m
+  front-written = ap (front header) (sym (own-frameOf indexCodec ShapedIndex index-lawful m s l [])) ∙ front-read indexCodec ShapedIndex index-lawful m s l []
+
+  written-is : (r : List ℕ)
+      → (answerOf (frameOf indexCodec m ++ r) ≡ Accepted (record { format = numberOf (m .kind); seq = m .seq; length = 26 + m .length }))
+      × (indexIn (frameOf indexCodec m ++ r) ≡ m)
+  unfolding answerOf indexIn
+  written-is r =
+      let p = index-trips .read-write m s l r in
+      let h = front-written in
+      let long = length-index m s l in
+      (p .0 ∙ (λ i. Accepted (record { format = numberOf (getD (h i) 1 0); seq = getD (h i) 3 0; length = long i })), p .1)
+
+pub index-says : IndexSays
+index-says = record { format-is = accepted-is; read-write = written-is }
