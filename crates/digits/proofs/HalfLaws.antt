@@ -1,15 +1,18 @@
--- Laws of the first bad half: none is told exactly where the digits are good, it is the lowest, and where it lies.
+-- Laws of the first bad half: none is told exactly where the digits are good, it is the lowest, where it lies, and that reading a field tells it.
 use Prim.Native.Nat.{ℕ, zero, suc, _+_, _-_, _*_, _/_, _%_, _^_, _≤_, _<_}
 use mathlib.Core.Path.{_≡_, refl, sym, ap, ap₂, _∙_, subst}
 use mathlib.Core.Bool.{Bool, true, false, cond, _&&_, _||_}
 use mathlib.Core.List.{List, [], _∷_}
+use mathlib.Core.Logic.{_↔_}
 use native.Mathlib.Omega.{arith}
 use native.Mathlib.Nat.{pow-suc}
 use lib.Dec.{eqb, leb, ltb}
 use lib.ListN.{length, getD}
 use borrow.Author.Tests.{leb-true, leb-false, le-leb, lt-leb, ltb-true, ltb-false, lt-ltb, le-ltb, eqb-true, eqb-false, eq-eqb, ne-eqb}
-use Rattle.digits.specs.Packed.{width, goodByte, good, goodField}
+use Rattle.digits.specs.Packed.{width, goodByte, good, two, valueFrom, goodField}
+use Rattle.digits.specs.Fields.{fieldFrom}
 use Rattle.digits.specs.Halves.{badFrom, badLead, badField, isNone, behind, orElse, halfAt, isBad, Lowest}
+use Rattle.digits.specs.declared.fields.Field.{Field}
 use Rattle.digits.specs.declared.halves.Place.{Place}
 use Rattle.digits.specs.declared.halves.Place.the-variants.{None, Half}
 use Rattle.digits.proofs.Bools.{no-false, and-left}
@@ -201,3 +204,35 @@ bad-inside n bs q h = go (leb (2 * length bs) q) refl
     go : (t : Bool) → leb (2 * length bs) q ≡ t → q < 2 * length bs
     go true e = absurd (no-false (sym (outside (leb-true (2 * length bs) q e)) ∙ h))
     go false e = leb-false (2 * length bs) q e
+
+-- ---- a field that is read
+-- what reading tells of the first bad half and of the number
+abbrev pub toldBy : Place → ℕ → Field
+toldBy None v = Field.Value v
+toldBy (Half q) v = Field.Bad q
+
+pub fieldFrom-told : (v p : ℕ) (bs : List ℕ) → fieldFrom v p bs ≡ toldBy (badFrom p bs) (valueFrom v bs)
+fieldFrom-told v p [] = refl
+fieldFrom-told v p (b ∷ bs) = go (ltb 9 (b / 16)) (ltb 9 (b % 16)) (fieldFrom-told (v * 100 + two b) (p + 2) bs)
+  where
+    go : (x y : Bool) → fieldFrom (v * 100 + two b) (p + 2) bs ≡ toldBy (badFrom (p + 2) bs) (valueFrom (v * 100 + two b) bs)
+        → cond x (Field.Bad p) (cond y (Field.Bad (p + 1)) (fieldFrom (v * 100 + two b) (p + 2) bs))
+        ≡ toldBy (cond x (Half p) (cond y (Half (p + 1)) (badFrom (p + 2) bs))) (valueFrom (v * 100 + two b) bs)
+    go true y ih = refl
+    go false true ih = refl
+    go false false ih = ih
+
+-- it tells a bad half exactly where that is the first one, and a number exactly where there is none
+pub bad-exactly : (v p q : ℕ) (bs : List ℕ) → (fieldFrom v p bs ≡ Field.Bad q) ↔ (badFrom p bs ≡ Half q)
+bad-exactly v p q bs = (λ e. to (badFrom p bs) (sym (fieldFrom-told v p bs) ∙ e), λ e. fieldFrom-told v p bs ∙ ap (λ (x : Place). toldBy x (valueFrom v bs)) e)
+  where
+    to : (x : Place) → toldBy x (valueFrom v bs) ≡ Field.Bad q → x ≡ Half q
+    to None e = cc
+    to (Half k) e = cc
+
+pub number-exactly : (v p : ℕ) (bs : List ℕ) → (fieldFrom v p bs ≡ Field.Value (valueFrom v bs)) ↔ (badFrom p bs ≡ None)
+number-exactly v p bs = (λ e. to (badFrom p bs) (sym (fieldFrom-told v p bs) ∙ e), λ e. fieldFrom-told v p bs ∙ ap (λ (x : Place). toldBy x (valueFrom v bs)) e)
+  where
+    to : (x : Place) → toldBy x (valueFrom v bs) ≡ Field.Value (valueFrom v bs) → x ≡ None
+    to None e = refl
+    to (Half k) e = cc

@@ -20,6 +20,7 @@ fieldFrom v p (b ∷ bs) =
 abbrev pub within : List ℕ → ℕ → ℕ → Bool
 within s at n = leb n 9 && leb (at + n) (length s)
 
+-- what reading the n bytes from a place answers, a bad half counted from the first of them
 abbrev pub fieldAt : List ℕ → ℕ → ℕ → Field
 fieldAt s at n = cond (within s at n) (fieldFrom 0 0 (take n (drop at s))) Field.Outside
 

@@ -30,6 +30,7 @@ badIn s at n = badField n (2 * at) (take (width n) (drop at s))
 abbrev pub looked : List ℕ → List ℕ
 looked s = take 65535 s
 
+-- the first bad half of the field 9(n) whose bytes begin at a place, among those that are looked at
 abbrev pub badAt : List ℕ → ℕ → ℕ → Place
 badAt s at n = badIn (looked s) at n
 
