@@ -1,4 +1,4 @@
--- Prices in ten-thousandths, 9(5)V9(4), and quantities in trading units, 9(8), at a place in some bytes.
+-- Prices in ten-thousandths, 9(5)V9(4), and quantities in trading units, 9(8), at a place in some bytes; and index values in thousandths, 9(5)V999.
 use Prim.Native.Nat.{ℕ, _+_}
 use mathlib.Core.Bool.{cond, _&&_}
 use mathlib.Core.List.{List}

@@ -1,2 +1,2 @@
--- Prices and quantities: definitions that the contracts cite.
+-- Prices, quantities and index values: definitions that the contracts cite.
 pub mod Amounts

@@ -1,4 +1,4 @@
--- An index value and the numbers in its header and its body tell each other; so both round trips hold.
+-- An index value and the numbers in its header and its body tell each other: all that both round trips ask of it.
 use Prim.Native.Nat.{ℕ, zero, suc, _+_, _-_, _^_, _≤_}
 use mathlib.Core.Path.{_≡_, refl, sym, ap, ap₂, _∙_}
 use mathlib.Core.Bool.{Bool, true, false, _&&_, _||_}
@@ -14,9 +14,8 @@ use Rattle.layout.proofs.CellLaws.{size-append, length-encode, length-decode}
 use Rattle.codes_times.specs.Times.{every}
 use Rattle.codes_times.proofs.RoomLaws.{filled, length-filled, text-back, rest-tidy}
 use Rattle.amounts.specs.Amounts.{asThousandths}
-use Rattle.frame.specs.Header.{own}
-use Rattle.frame.specs.Codec.{Allowed, Reads, legal, frameOf, Lawful}
-use Rattle.frame.proofs.CodecLaws.{legal-fits, legal-rules, legal-tidy, read-written, written-read}
+use Rattle.frame.specs.Codec.{Allowed, legal, Lawful}
+use Rattle.frame.proofs.CodecLaws.{legal-fits, legal-rules, legal-tidy}
 use Rattle.derivatives_frame.specs.Outline.{header}
 use Rattle.derivatives_frame.specs.Closing.{headNumbers}
 use Rattle.derivatives_frame.proofs.HeaderHolds.{law}
@@ -227,12 +226,3 @@ index-lawful = record {
   tidy-message = tidy-message;
   shaped-message = shaped-message;
 }
-
--- ---- both round trips
--- reading a written index value gives it back, whatever follows the frame
-pub read-written-index : (m : Index) → ShapedIndex m → legal indexCodec m ≡ true → (r : List ℕ) → Reads indexCodec (frameOf indexCodec m ++ r) m
-read-written-index m s l r = read-written indexCodec ShapedIndex index-lawful m s l r
-
--- writing a read index value gives the frame's bytes
-pub written-read-index : (t : List ℕ) (m : Index) → Reads indexCodec t m → frameOf indexCodec m ≡ own header t
-written-read-index t m rd = written-read indexCodec ShapedIndex index-lawful t m rd
