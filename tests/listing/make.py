@@ -25,7 +25,7 @@ from reference.reader import read, walk, xor
 # The listing of moves.
 
 def rows(moves):
-    """The moves as rows; adjacent skipped bytes make one row, with the first one's reason."""
+    """The moves as rows: a run of skipped bytes is one, with the place and the answer of its first."""
     made = []
     skipping = False
     for at, answer, step, message in moves:

@@ -6,7 +6,7 @@ use Rattle.digits.specs.declared.halves.Place.the-variants.{None}
 use Rattle.answers.specs.Answers.{answerNumber}
 use Rattle.answers.specs.declared.Answer.the-variants.{NoFrame}
 use Rattle.exchange.proofs.SoundLaws as common
-use Rattle.walk.specs.Sound.{Sound, LineReading}
+use Rattle.walk.specs.Sound.{Sound}
 use Rattle.derivatives_frame.proofs.HeaderHolds.{law}
 use Rattle.derivatives_index.specs.Index.{indexCodec, noIndex}
 use Rattle.derivatives_reading.specs.Reading.{derivatives, isIndex, answerOf, indexIn}
@@ -22,9 +22,6 @@ sound-answers = common.sound-reading derivatives law behind
 pub quiet : (b : ℕ) (bs : List ℕ) → (b ≡ 27 → ⊥) → answerOf (b ∷ bs) ≡ NoFrame 1 None
 unfolding answerOf
 quiet = common.quiet derivatives law behind
-
-abbrev pub derivatives-line : LineReading
-derivatives-line = record { says = answerOf; longest = longest; sound = sound-answers; quiet = quiet }
 
 -- ---- with index values
 -- bytes that follow take none back

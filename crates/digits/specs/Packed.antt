@@ -1,5 +1,5 @@
--- Packed digits: a byte holds two decimal digits, high half first; a half above 9 is a bad digit; a field 9(n) takes
--- n / 2 bytes rounded up, and an odd n has a leading zero digit.
+-- Packed digits: two to a byte, the high half before the low one, and a half of 10 or more is bad; a field 9(n) fills as many bytes as n
+-- digits need, with a 0 before them where n is odd.
 use Prim.Native.Nat.{ℕ, zero, suc, _+_, _*_, _/_, _%_, _^_}
 use mathlib.Core.Bool.{Bool, true, _&&_}
 use mathlib.Core.List.{List, [], _∷_}

@@ -1,51 +1,34 @@
 -- The reading of the stock exchange's frames is sound, with and without the messages, so the laws of a walk hold of its lines.
-use Prim.Native.Nat.{ℕ, _+_, _-_, _≤_}
-use mathlib.Core.Path.{_≡_, refl, sym, ap, _∙_}
-use mathlib.Core.Bool.{Bool, true, cond, _||_}
+use Prim.Native.Nat.{ℕ}
+use mathlib.Core.Path.{_≡_, refl, ap, _∙_}
+use mathlib.Core.Bool.{cond}
 use mathlib.Core.List.{List, _∷_, _++_}
-use native.Mathlib.Omega.{arith}
-use lib.Dec.{eqb, leb}
-use borrow.Author.Tests.{ne-eqb, lt-leb}
-use Rattle.digits.proofs.Bools.{no-false}
+use lib.Dec.{eqb}
+use Rattle.digits.specs.declared.halves.Place.the-variants.{None}
 use Rattle.answers.specs.Answers.{answerNumber}
 use Rattle.answers.specs.declared.Answer.{Answer}
-use Rattle.digits.specs.declared.halves.Place.the-variants.{None}
 use Rattle.answers.specs.declared.Answer.the-variants.{Accepted, NoFrame, Refused}
+use Rattle.exchange.proofs.SoundLaws as common
+use Rattle.walk.specs.Sound.{Sound}
+use Rattle.stock_frame.proofs.OutlineLaws.{header-law}
 use Rattle.stock_notices.specs.Notices.{fiveCodec, noNotice}
 use Rattle.stock_quotes.specs.Quotes.{sixCodec, noQuote}
 use Rattle.stock_prices.specs.Prices.{twelveCodec, noPrices}
 use Rattle.stock_halts.specs.Halts.{nineteenCodec, noHalt}
-use Rattle.stock_reading.specs.Reading.{answerOf}
-use Rattle.stock_frame.proofs.OutlineSteps.{check-first}
-use Rattle.stock_reading.proofs.EdgesHold.{edges-hold}
-use Rattle.stock_reading.proofs.MoreBytes.{answer-more, message-more}
-use Rattle.stock_reading.proofs.Lengths.{whole-within, waits-short}
-use Rattle.stock_reading.proofs.ReadingLaws.{answer-not}
-use Rattle.walk.specs.Walk.{isWhole}
-use Rattle.walk.specs.Sound.{Sound, LineReading}
+use Rattle.stock_reading.specs.Reading.{stock, checks, answerOf}
+use Rattle.stock_reading.proofs.Exchange.{behind}
+use Rattle.stock_reading.proofs.MoreBytes.{message-more}
 use Rattle.stock_lines.specs.Lines.{answers, longest, messageIn, quote, prices, halt, notice, sayings}
-
--- 0 and 6 to 13 are none of 1 to 5
-not-small : (n : ℕ) → isWhole n ≡ true → 1 ≤ n → n ≤ 5 → ⊥
-not-small n w l h = no-false (sym (ap (λ (b : Bool). b || leb 6 n) (ne-eqb n 0 (λ e. omega (arith, e))) ∙ lt-leb 6 n (omega arith)) ∙ w)
 
 -- ---- by answers
 pub sound-answers : Sound answers longest
-sound-answers = record {
-  nothing = ap answerNumber (edges-hold .no-bytes);
-  some = λ t w. omega (arith, whole-within t (not-small (answerNumber (answerOf t)) w) .0);
-  inside = λ t w. whole-within t (not-small (answerNumber (answerOf t)) w) .1;
-  settled = λ t u h. answer-more t u (λ q. h (ap answerNumber q));
-  short = waits-short;
-}
+unfolding answerOf checks
+sound-answers = common.sound-reading stock header-law behind
 
 -- where no 27 stands the reading answers 1
 pub quiet : (b : ℕ) (bs : List ℕ) → (b ≡ 27 → ⊥) → answerOf (b ∷ bs) ≡ NoFrame 1 None
-quiet b bs h = sym (answer-not (b ∷ bs) (NoFrame 1 None) (sym (check-first (b ∷ bs) (omega arith) h)))
-
--- what the laws of a line's turns are taken at
-abbrev pub stock-line : LineReading
-stock-line = record { says = answerOf; longest = longest; sound = sound-answers; quiet = quiet }
+unfolding answerOf checks
+quiet = common.quiet stock header-law behind
 
 -- ---- with messages
 -- bytes that follow take no message back

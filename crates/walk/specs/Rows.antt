@@ -1,4 +1,4 @@
--- The rows of a listing: adjacent skipped bytes make one row, with the first one's reason.
+-- The rows of a listing: a run of skipped bytes is one row, which has the place and the answer of its first byte.
 use Prim.Native.Nat.{ℕ, _+_}
 use mathlib.Core.Bool.{Bool, cond, _&&_}
 use mathlib.Core.List.{List, [], _∷_}
