@@ -17,7 +17,8 @@ use Rattle.laws_capture.specs.Cuts.{Bytes, CutTells}
 use Rattle.laws_capture.proofs.HoldLaws.{Holds, holds-good, holds-found, holds-taken, whole-block, append-holds}
 use Rattle.laws_capture.proofs.GoodLaws.{good-holds}
 
-abbrev placeOf : Taken → ℕ
+-- the place in an answer
+abbrev pub placeOf : Taken → ℕ
 placeOf (Taken.At p) = p
 placeOf (Taken.Refused n) = 0
 placeOf (Taken.Bad p) = 0

@@ -38,7 +38,7 @@ partPlace (Part.Bad p) = p
 -- ---- the first place at which a test holds
 module _ (test : ℕ → Bool) where
   -- a search that finds a place: there the test holds, and before it nowhere
-  found-holds : (k p : ℕ) → 1 ≤ p → (firstFrom test k p ≡ 0 → ⊥)
+  pub found-holds : (k p : ℕ) → 1 ≤ p → (firstFrom test k p ≡ 0 → ⊥)
       → (p ≤ firstFrom test k p) × (firstFrom test k p < p + k) × (test (firstFrom test k p) ≡ true) × ((q : ℕ) → p ≤ q → q < firstFrom test k p → test q ≡ false)
   found-holds zero p f ne = absurd (ne refl)
   found-holds (suc k) p f ne = go (test p) refl ne (found-holds k (p + 1) (omega arith))
@@ -249,7 +249,7 @@ torn-told m n q long t = alike-told m n alike long (t .long ∙ long)
         go true e =
             let same = eqb-true p q e in
             rw (ap (unfinishedAt m) same ∙ t .was-open, ap (unfinishedAt n) same ∙ t .is-open) refl
-        go false e = ap shown (t .others p (eqb-false p q e))
+        go false e = ap shown (t .others p f (eqb-false p q e))
 
 -- captures that hold the same show the same
 holds-alike : (m n : List ℕ) (ps : List (List ℕ)) → Holds m ps → Holds n ps → Alike m n

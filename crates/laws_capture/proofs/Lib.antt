@@ -6,4 +6,5 @@ pub mod GoodLaws
 pub mod SeriesTells
 pub mod CutTells
 pub mod ExactLaws
+pub mod OrderTells
 pub mod ReturnsValues

@@ -10,7 +10,7 @@ use lib.Seq.{getD-set-same, getD-set-other, ext-getD, drop-set-add, drop-set-lt,
 use lib.Dec.{eqb, ltb}
 use Rattle.capture.specs.Blocks.{number}
 use Rattle.capture.specs.Captures.{startOf, blockAt}
-use Rattle.capture_append.specs.Stores.{storedByte, storedFrom}
+use Rattle.capture_append.specs.Stores.{storedByte, storeOf, storedFrom}
 
 -- a block after the first k stores over it
 abbrev pub torn : List ℕ → List ℕ → ℕ → List ℕ
@@ -53,48 +53,67 @@ torn-all old b l n =
     ext-getD 0 (torn old b 512) b (torn-long old b 512 ∙ l ∙ sym n)
     (λ i h. torn-at old b 512 i l (omega arith) (omega (arith, torn-long old b 512)) ∙ rw (lt-ltb ((i + 508) % 512) 512 (omega arith)) refl)
 
-either : (s : Bool) (x y : ℕ) → x ≡ 0 → y ≡ 0 → cond s x y ≡ 0
-either true x y a b = a
-either false x y a b = b
+-- ---- one store
+-- a byte that is zero in the block and in what is stored over it
+zero-kept : (old b : List ℕ) (s i : ℕ) → s < length old → getD old i 0 ≡ 0 → getD b i 0 ≡ 0 → getD (set old s (getD b s 0)) i 0 ≡ 0
+zero-kept old b s i h o z = go (eqb s i) refl
+  where
+    go : (t : Bool) → eqb s i ≡ t → getD (set old s (getD b s 0)) i 0 ≡ 0
+    go true e =
+        let same = eqb-true s i e in
+        ap (λ (j : ℕ). getD (set old s (getD b s 0)) j 0) (sym same) ∙ getD-set-same old s (getD b s 0) 0 h ∙ ap (λ (j : ℕ). getD b j 0) same ∙ z
+    go false e = getD-set-other old s i (getD b s 0) 0 (λ y. eqb-false s i e (sym y)) ∙ o
+
+-- a block that has no number has none behind a store before the last
+pub number-store : (old b : List ℕ) (j : ℕ) → length old ≡ 512 → j + 1 < 512 → number old ≡ 0 → getD b 0 0 ≡ 0 → getD b 1 0 ≡ 0 → getD b 2 0 ≡ 0
+    → number (set old (storedByte j) (getD b (storedByte j) 0)) ≡ 0
+unfolding number
+number-store old b j l h z b0 b1 b2 =
+    let s = storedByte j in
+    let low : s < length old = omega (arith, l) in
+    let t0 = zero-kept old b s 0 low (omega (arith, z)) b0 in
+    let t1 = zero-kept old b s 1 low (omega (arith, z)) b1 in
+    let t2 = zero-kept old b s 2 low (omega (arith, z)) b2 in
+    let o3 : getD old 3 0 ≡ 0 = omega (arith, z) in
+    let t3 = getD-set-other old s 3 (getD b s 0) 0 (λ e. omega (arith, h, e)) ∙ o3 in
+    omega (arith, t0, t1, t2, t3)
 
 -- before the last it has no number, where it had none
 pub torn-number : (old b : List ℕ) (k : ℕ) → length old ≡ 512 → k < 512 → number old ≡ 0 → getD b 0 0 ≡ 0 → getD b 1 0 ≡ 0 → getD b 2 0 ≡ 0
     → number (torn old b k) ≡ 0
-unfolding number
-torn-number old b k l h z b0 b1 b2 =
-    let at : (i : ℕ) → i < 512 → getD b i 0 ≡ 0 → getD old i 0 ≡ 0 → getD (torn old b k) i 0 ≡ 0 =
-    λ i t x y. torn-at old b k i l (omega (arith, h)) t ∙ either (ltb ((i + 508) % 512) k) (getD b i 0) (getD old i 0) x y in
-    let t0 = at 0 (omega arith) b0 (omega (arith, z)) in
-    let t1 = at 1 (omega arith) b1 (omega (arith, z)) in
-    let t2 = at 2 (omega arith) b2 (omega (arith, z)) in
-    let o3 : getD old 3 0 ≡ 0 = omega (arith, z) in
-    let t3 : getD (torn old b k) 3 0 ≡ 0 = torn-at old b k 3 l (omega (arith, h)) (omega arith) ∙ rw (le-ltb 511 k (omega (arith, h))) o3 in
-    omega (arith, t0, t1, t2, t3)
+torn-number old b zero l h z b0 b1 b2 = z
+torn-number old b (suc k) l h z b0 b1 b2 =
+    number-store (torn old b k) b k (torn-long old b k ∙ l) (omega (arith, h)) (torn-number old b k l (omega (arith, h)) z b0 b1 b2) b0 b1 b2
 
 -- the block that is stored, and the others
+module _ (b : List ℕ) (q : ℕ) where
+  pub block-store : (m : List ℕ) (j : ℕ) → blockAt (storeOf m (startOf q) b j) q ≡ set (blockAt m q) (storedByte j) (getD b (storedByte j) 0)
+  unfolding blockAt
+  block-store m j =
+      let v = getD b (storedByte j) 0 in
+      ap (take 512) (drop-set-add (startOf q) m (storedByte j) v) ∙ take-set-lt 512 (drop (startOf q) m) (storedByte j) v (omega arith)
+
+  pub store-other : (m : List ℕ) (j p : ℕ) → 1 ≤ p → 1 ≤ q → (p ≡ q → ⊥) → blockAt (storeOf m (startOf q) b j) p ≡ blockAt m p
+  unfolding blockAt
+  store-other m j p f g ne = go (ltb p q) refl
+    where
+      v : ℕ
+      v = getD b (storedByte j) 0
+
+      go : (t : Bool) → ltb p q ≡ t → take 512 (drop (startOf p) (storeOf m (startOf q) b j)) ≡ take 512 (drop (startOf p) m)
+      go true u =
+          let d = startOf q - startOf p + storedByte j in
+          let split : startOf q + storedByte j ≡ startOf p + d = omega (arith, ltb-true p q u) in
+          ap (λ (i : ℕ). take 512 (drop (startOf p) (set m i v))) split ∙ ap (take 512) (drop-set-add (startOf p) m d v)
+          ∙ take-set-le 512 (drop (startOf p) m) d v (omega (arith, ltb-true p q u, f))
+      go false u = ap (take 512) (drop-set-lt (startOf p) m (startOf q + storedByte j) v (omega (arith, ltb-false p q u, f, g, ne)))
+
 module _ (m b : List ℕ) (q : ℕ) where
   pub block-stored : (k : ℕ) → k ≤ 512 → blockAt (storedFrom m (startOf q) b k) q ≡ torn (blockAt m q) b k
-  unfolding blockAt
   block-stored zero h = refl
   block-stored (suc k) h =
-      let e = storedFrom m (startOf q) b k in
-      let v = getD b (storedByte k) 0 in
-      ap (take 512) (drop-set-add (startOf q) e (storedByte k) v) ∙ take-set-lt 512 (drop (startOf q) e) (storedByte k) v (omega arith)
-      ∙ ap (λ (l : List ℕ). set l (storedByte k) v) (block-stored k (omega arith))
+      block-store b q (storedFrom m (startOf q) b k) k ∙ ap (λ (l : List ℕ). set l (storedByte k) (getD b (storedByte k) 0)) (block-stored k (omega arith))
 
   pub block-other : (p k : ℕ) → 1 ≤ p → 1 ≤ q → (p ≡ q → ⊥) → blockAt (storedFrom m (startOf q) b k) p ≡ blockAt m p
-  unfolding blockAt
   block-other p zero f g ne = refl
-  block-other p (suc k) f g ne = go (ltb p q) refl (block-other p k f g ne)
-    where
-      go : (t : Bool) → ltb p q ≡ t → take 512 (drop (startOf p) (storedFrom m (startOf q) b k)) ≡ take 512 (drop (startOf p) m)
-          → take 512 (drop (startOf p) (storedFrom m (startOf q) b (suc k))) ≡ take 512 (drop (startOf p) m)
-      go true u ih =
-          let d = startOf q - startOf p + storedByte k in
-          let split : startOf q + storedByte k ≡ startOf p + d = omega (arith, ltb-true p q u) in
-          let l = storedFrom m (startOf q) b k in
-          let w = getD b (storedByte k) 0 in
-          ap (λ (i : ℕ). take 512 (drop (startOf p) (set l i w))) split ∙ ap (take 512) (drop-set-add (startOf p) l d w)
-          ∙ take-set-le 512 (drop (startOf p) l) d w (omega (arith, ltb-true p q u, f)) ∙ ih
-      go false u ih = ap (take 512) (drop-set-lt (startOf p) (storedFrom m (startOf q) b k) (startOf q + storedByte k) (getD b (storedByte k) 0)
-          (omega (arith, ltb-false p q u, f, g, ne))) ∙ ih
+  block-other p (suc k) f g ne = store-other b q (storedFrom m (startOf q) b k) k p f g ne ∙ block-other p k f g ne

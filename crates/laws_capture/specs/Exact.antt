@@ -30,11 +30,10 @@ pub record Left (m : List ℕ) : Type 0 where
   pub series : List Attempt
   pub alike : Alike (after series) m
 
--- memory that differs from other memory only in one block, which is unfinished in both: so do any of an append's stores but the last leave
--- it, in whatever order they are done
+-- memory that differs from other memory only in one block, which is unfinished in both
 pub record TornAt (m n : List ℕ) (q : ℕ) : Type 0 where
   pub long : length n ≡ length m
-  pub others : (p : ℕ) → (p ≡ q → ⊥) → blockAt m p ≡ blockAt n p
+  pub others : (p : ℕ) → 1 ≤ p → (p ≡ q → ⊥) → blockAt m p ≡ blockAt n p
   pub was-open : unfinishedAt m q ≡ true
   pub is-open : unfinishedAt n q ≡ true
 

@@ -65,7 +65,8 @@ fn finish(fd: i32, capture: &mut [u8], payload: &[u8]) -> Kept {
     }
 }
 
-// Keeps a payload. What the file holds at any moment is what a cut of the append's stores leaves.
+// Keeps a payload. The first write is of all that the stores but the last leave: until it is synced the disk may have any of them, done
+// in any order, and what is found then is what was found before (order-tells of laws_capture). Then comes the last one, in finish.
 fn keep(fd: i32, capture: &mut [u8], payload: &[u8]) -> Kept {
     match append_cut(capture, payload, BLOCK - 1) {
         Taken::At(place) => {
