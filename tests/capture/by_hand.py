@@ -31,19 +31,40 @@ def try_keeping():
             if path.read_bytes() != blocks.capture(kept):
                 faults.differs(f"{what} by {name}: the file is not the one that they make")
         wants_held(what, path, kept)
-    if list(folder.glob("*.new")):
+    if list(folder.glob("*.new*")):
         faults.differs("a file is left that was to be renamed")
 
 
 def try_names():
-    """Files here and in other folders, by a path from here and by a whole one; and one that a run left before it was renamed."""
+    """Files here and in other folders, by a path from here and by a whole one."""
     (folder / "deep" / "er").mkdir(parents=True)
-    in_folder("night.new", b"left")
     for path in (in_folder("deep/er/night"), in_folder("deep/night"), in_folder("night")):
         for name in (str(path.relative_to(folder)), str(path)):
             wants(f"append to {name}", program("append", name, given=b"kept"))
         if found_in(path.read_bytes()) != [b"kept", b"kept"]:
             faults.differs(f"append to {path}: the file has something else")
+
+
+def try_taken():
+    """Files that have the names by which a new file is made: none is changed, and the first name that is free is used. A capture is
+    among them, a link to one, and what a run left that was ended before it renamed its file."""
+    names = [f"night.new{n or ''}" for n in range(100)]
+    kept, linked = blocks.capture([b"a night"]), in_folder("linked", blocks.capture([b"another night"]))
+    for count in (1, 2, 99, 100):
+        others = [kept, linked.read_bytes(), b"", bytes(5), bytes(blocks.SIZE), *[b"left"] * 95]
+        taken, what, path = dict(zip(names[:count], others)), f"append with {count} names taken", in_folder("night")
+        for name, data in taken.items():
+            in_folder(name, data)
+        if count > 1:
+            in_folder(names[1]).symlink_to(linked)
+        said = "" if count < 100 else "capture: cannot make night: with .new to .new99 behind its name there are files already\n"
+        wants(what, program("append", "night", given=b"kept"), said)
+        if (found_in(path.read_bytes()) if path.exists() else []) != ([b"kept"] if count < 100 else []):
+            faults.differs(f"{what}: the file is not made, or has something else")
+        if {one.name: one.read_bytes() for one in folder.glob("*.new*")} != taken:
+            faults.differs(f"{what}: one of these files is changed, gone or new")
+    for name in names:
+        in_folder(name)
 
 
 def soon_held(path, wanted):
@@ -211,8 +232,8 @@ def try_no_room():
     in_folder("night")
     said = "capture: cannot write night.new: File too large\n"
     wants("append without room for a new file", program("append", "night", given=given, preexec_fn=no_longer_than(1700)), said)
-    if path.exists():
-        faults.differs("a file is made that is not whole")
+    if path.exists() or list(folder.glob("*.new*")):
+        faults.differs("a file is made or left that is not whole")
 
 
 def broken_off(data):
@@ -268,6 +289,6 @@ def try_words():
 
 
 TRIES = [
-    try_keeping, try_names, try_pieces, try_listing, try_full, try_lengths, try_bad, try_files, try_no_room, try_streams,
+    try_keeping, try_names, try_taken, try_pieces, try_listing, try_full, try_lengths, try_bad, try_files, try_no_room, try_streams,
     try_words
 ]

@@ -2,13 +2,19 @@
 ghost use Rattle.io.specs.Counts.{Counts};
 use crate::telling::tell_closed;
 use crate::telling::tell_failed;
+use crate::telling::tell_taken;
 use capture::SIZE;
+use libc::EEXIST;
 use libc::ENOENT;
 use libc::STDERR_FILENO;
 use printing::put_all;
+use printing::put_number;
 
 // One byte more than a capture has shows that a file is longer.
 pub(crate) const ROOM: usize = SIZE + 1;
+
+// So many names are tried for a file while it is made.
+const NAMES: usize = 100;
 
 // What was read: how many bytes, and whether a read failed behind them.
 pub(crate) struct Filled {
@@ -80,18 +86,17 @@ fn zeros_stored(fd: i32, name: &[u8]) -> bool {
     true
 }
 
-// Makes the file under another name, and gives it its own once it is whole.
-fn make_as(name: &[u8], new: &[u8]) -> bool {
-    let fd = os::open_overwrite(new);
-    if fd < 0 {
-        tell_failed(b"make", new);
-        return false;
-    }
-    let done = zeros_stored(fd, new);
-    libc::close(fd);
-    if !done {
-        return false;
-    }
+// What became of a file that was to be made.
+enum Made {
+    Done,
+    // it is said why not
+    Failed,
+    // there is a file of the other name
+    Taken,
+}
+
+// Gives the file its own name.
+fn renamed(name: &[u8], new: &[u8]) -> bool {
     if os::rename(new, name) != 0 {
         tell_failed(b"make", name);
         return false;
@@ -99,19 +104,64 @@ fn make_as(name: &[u8], new: &[u8]) -> bool {
     true
 }
 
-fn make_named(name: &[u8], new: &[u8], to: usize) -> bool {
+// Makes the file under another name, and gives it its own once it is whole. If that fails it is removed.
+fn make_as(name: &[u8], new: &[u8]) -> Made {
+    let fd = os::create(new);
+    if fd < 0 {
+        if os::errno() == EEXIST {
+            return Made::Taken;
+        }
+        tell_failed(b"make", new);
+        return Made::Failed;
+    }
+    let whole = zeros_stored(fd, new);
+    libc::close(fd);
+    if whole {
+        if renamed(name, new) {
+            return Made::Done;
+        }
+    }
+    os::unlink(new);
+    Made::Failed
+}
+
+fn make_named(name: &[u8], new: &[u8], to: usize) -> Made {
     if to <= new.len() {
         return make_as(name, &new[0..to]);
     }
-    false
+    Made::Failed
 }
 
-// Makes the file of a fresh capture. There is room for the longest name and what is put behind it.
-fn make(name: &[u8]) -> bool {
-    let mut new = [0u8; 4100];
+// The number of a name behind the first.
+fn put_try(out: &mut [u8], at: usize, n: usize) -> usize {
+    if n == 0 {
+        return at;
+    }
+    put_number(out, at, n as u64)
+}
+
+// Makes the file by the other name of this number. There is room for the longest name and what is put behind it.
+fn make_by(name: &[u8], n: usize) -> Made {
+    let mut new = [0u8; 4104];
     let to = put_all(&mut new, 0, name);
     let to = put_all(&mut new, to, b".new");
+    let to = put_try(&mut new, to, n);
     make_named(name, &new, to)
+}
+
+// Makes the file of a fresh capture, by the first other name that is free. No file of such a name is changed: it may be a capture, and one
+// that another program appends to.
+fn make(name: &[u8]) -> bool {
+    let mut n = 0;
+    while n < NAMES {
+        match make_by(name, n) {
+            Made::Done => return true,
+            Made::Failed => return false,
+            Made::Taken => n += 1,
+        }
+    }
+    tell_taken(name);
+    false
 }
 
 // The file, made if it is not there; -1 once it is said why not.

@@ -21,8 +21,10 @@ A power loss harms no finished block, and no other is found after it. Each block
 the last byte of its number, and fdatasync waits until the device has it; then that byte is written
 and waited for, and the block is finished. So a block is found after a power loss only if all its
 other bytes had reached the device, and the next append takes the first place that is not finished.
-A new FILE is written as FILE.new, synced and renamed, and its folder is synced too. Ending this
-program by kill is safe at any moment.
+A new FILE is written as FILE.new, synced and renamed, and its folder is synced too. Where that name
+is taken it is FILE.new1, and so on to FILE.new99: no file that is there is changed for it. A run that
+is ended while it makes FILE leaves such a file of zeros, which may be removed. Ending this program by
+kill is safe at any moment.
 
 That is as good as the word of the operating system, by fdatasync. Not covered are
 - a drive that says it has bytes while they are in a cache that the power loss empties,

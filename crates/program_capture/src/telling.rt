@@ -98,6 +98,19 @@ pub(crate) fn tell_closed() {
     );
 }
 
+// A file could not be made under another name.
+pub(crate) fn tell_taken(name: &[u8]) {
+    let mut text = line();
+    let to = put_between(
+        &mut text,
+        0,
+        b"capture: cannot make ",
+        name,
+        b": with .new to .new99 behind its name there are files already\n",
+    );
+    say(&text, to);
+}
+
 // What could not be done with a file, and why.
 pub(crate) fn tell_failed(verb: &[u8], name: &[u8]) {
     let mut text = line();
