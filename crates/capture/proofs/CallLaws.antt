@@ -1,6 +1,6 @@
 -- What each call answers, return by return.
 use Prim.Native.Nat.{ℕ, _+_, _-_, _*_, _≤_, _<_}
-use mathlib.Core.Path.{_≡_, refl, sym, ap, _∙_}
+use mathlib.Core.Path.{_≡_, refl, sym, ap, ap₂, _∙_}
 use mathlib.Core.Bool.{Bool, true, false, not, cond, _&&_}
 use mathlib.Core.List.{List}
 use native.Mathlib.Omega.{arith}
@@ -148,9 +148,10 @@ module _ (m : List ℕ) where
     unfolding partIn
     past-places ne h = rw (ne-eqb p 0 ne, lt-ltb n p h) refl
 
-    pub a-place : (p ≡ 0 → ⊥) → p ≤ n → (k : ℕ) → k ≡ used (take (512 * (p - 1) + 512 - 512 * (p - 1)) (drop (512 * (p - 1)) m))
-        → Part.Bytes (512 * (p - 1) + 6) k ≡ partIn m n p
+    pub a-place : (p ≡ 0 → ⊥) → p ≤ n → (s k : ℕ) → s ≡ startOf p → k ≡ used (take (s + 512 - s) (drop s m)) → Part.Bytes (s + 6) k ≡ partIn m n p
     unfolding partIn
-    a-place ne h k is =
+    a-place ne h s k at is =
         let e : p - 1 + 1 ≡ p = omega arith in
-        rw (ne-eqb p 0 ne, le-ltb n p h) (ap (Part.Bytes (512 * (p - 1) + 6)) (is ∙ ap used (slice-block m (p - 1) ∙ ap (blockAt m) e)))
+        let there : take (s + 512 - s) (drop s m) ≡ blockAt m p =
+        ap (λ (j : ℕ). take (j + 512 - j) (drop j m)) at ∙ slice-block m (p - 1) ∙ ap (blockAt m) e in
+        rw (ne-eqb p 0 ne, le-ltb n p h) (ap₂ (λ (j i : ℕ). Part.Bytes (j + 6) i) at (is ∙ ap used there))

@@ -2,7 +2,7 @@
 ghost use mathlib.Core.Path.{_≡_};
 ghost use Prim.Native.Nat.{_≤_};
 ghost use lib.ListN.{length};
-ghost use Rattle.capture.specs.Captures.{captureSize, places};
+ghost use Rattle.capture.specs.Captures.{captureSize, places, startOf};
 ghost use Rattle.capture.specs.Calls.{clearedOf, clearedBytes, heldOf, partOf};
 ghost use Rattle.capture.specs.Searches.{partIn};
 use crate::BLOCK;
@@ -46,18 +46,29 @@ pub fn finished(capture: &[u8]) -> Held
     Held::Blocks(n)
 }
 
+// Where the block at a place begins.
+fn start_of(place: usize) -> usize
+    requires { ⌜ place ≤ places ⌝ }
+    ensures { λ r. ⌜ r ≡ startOf place ⌝ }
+{
+    if place == 0 {
+        return 0;
+    }
+    BLOCK * (place - 1)
+}
+
 // The payload at a place of a capture in which no block is bad, and of which so many are finished.
 fn finished_part(capture: &[u8], n: usize, place: usize) -> Part
     requires { ⌜ (length (now capture) ≡ captureSize) × (n ≤ places) ⌝ }
     ensures { λ r. ⌜ r ≡ partIn (now (capture .entry)) n place ⌝ }
 {
-    if place == 0 {
+    if place < 1 {
         return Part::Bytes(0, 0);
     }
     if n < place {
         return Part::Bytes(0, 0);
     }
-    let start = BLOCK * (place - 1);
+    let start = start_of(place);
     let end = start + BLOCK;
     Part::Bytes(start + 6, used_bytes(&capture[start..end]))
 }

@@ -11,11 +11,8 @@ returns c = let a = c .before .before .args in no-place (a .capture .now) (a .n)
 returns-2 : tie.Need-returns-2
 returns-2 c = let a = c .before .before .before .args in past-places (a .capture .now) (a .n) (a .place) (λ e. omega (arith, e)) (omega arith)
 
-sub-start : tie.Need-sub-start
-sub-start c = search needs
-
-mul-start : tie.Need-mul-start
-mul-start c = search needs
+start-of-requires : tie.Need-start-of-requires
+start-of-requires c = search needs
 
 add-end : tie.Need-add-end
 add-end c = search needs
@@ -37,8 +34,9 @@ used-bytes-requires c κs = search needs
 
 returns-3 : tie.Need-returns-3
 returns-3 c =
-    let a = c .before .before .before .before .before .args in
-    a-place (a .capture .now) (a .n) (a .place) (λ e. omega (arith, e)) (omega arith) (c .used-bytes .result) (c .used-bytes .ensures)
+    let s = c .before .before in
+    let a = s .before .before .before .before .args in
+    a-place (a .capture .now) (a .n) (a .place) (λ e. omega (arith, e)) (omega arith) (s .start-of .result) (c .used-bytes .result) (s .start-of .ensures) (c .used-bytes .ensures)
 
 pub finished-part-spec : {M : Type 1} → statement M
 finished-part-spec =
@@ -46,8 +44,7 @@ finished-part-spec =
     (tie.spec
     returns
     returns-2
-    sub-start
-    mul-start
+    start-of-requires
     add-end
     add-t7
     sub-used-bytes
