@@ -118,7 +118,7 @@ impl Capture {
         &self.bytes
     }
 
-    /// Makes the capture fresh, whatever it holds.
+    /// Makes the capture fresh, whatever it holds. Cut short by a power loss it may leave a bad block, until it is done again.
     #[inline]
     pub fn clear(&mut self) {
         raw::capture_clear(&mut self.bytes[..]);
