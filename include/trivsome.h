@@ -316,8 +316,8 @@ uint64_t trivsome_board_rows(const uint64_t *heads, size_t head_count, const uin
  * capture[TRIVSOME_CAPTURE_SIZE]. Each call answers 34 unless it is lent so many bytes.
  *
  * An append stores all other bytes of its block first, and then the last byte of the number, in a store of its own: that store
- * finishes the block. If power goes after any store, what is found is every block that was finished before, and the new one only
- * if it was finished; the next append takes the first unfinished place, and stores over all that the cut left there.
+ * finishes the block. A power loss before it leaves the capture with the blocks that it had, and their payloads; the place of the
+ * append is unfinished, so the next one takes it again and stores over all that the cut left there.
  *
  * So much is promised of the lent memory alone, in the order in which it is stored to. What becomes of it in a file or in any
  * other place that outlives the power is the caller's to see to: that all other bytes of the block are there for good (fsync)

@@ -8,9 +8,9 @@ use crate::raw;
 
 /// A capture of 128 blocks, each with a payload of 1 to 504 bytes. No call copies it.
 ///
-/// An append stores all other bytes of its block first, and then the last byte of the number, which finishes the block. If power
-/// goes after any store, what is found is every block that was finished before, and the new one only if it was finished. So much
-/// is promised of the capture's own memory; a file to which it is written is the caller's to sync, as the program `capture` does.
+/// An append stores all other bytes of its block first, and then the last byte of the number, which finishes the block. A power
+/// loss before that store leaves the blocks that there were, and the place to the next append. So much is promised of the
+/// capture's own memory; a file to which it is written is the caller's to sync, as the program `capture` does.
 #[derive(Clone, PartialEq, Eq, Hash)]
 pub struct Capture {
     bytes: Box<[u8; Capture::SIZE]>,

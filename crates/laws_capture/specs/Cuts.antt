@@ -15,7 +15,7 @@ abbrev pub Bytes : List ℕ → Type 0
 Bytes m = (i : ℕ) → getD m i 0 < 256
 
 pub record CutTells (m x : List ℕ) (k : ℕ) : Type 0 where
-  -- what is found is every block finished before, and the new one exactly if its payload fits, there is room and all stores were done
+  -- nothing that was found is lost, and the payload comes behind it exactly if it fits, there is room and all stores were done
   pub finds : found (takenBytes m x k) ≡ keptWith (found m) (record { payload = x; done = k })
   pub no-bad : firstBad (takenBytes m x k) ≡ 0
   -- where they were not all done, the next append is answered as if this one had not begun
