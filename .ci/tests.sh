@@ -61,7 +61,7 @@ user_tests() {
         "the lines of README work" python3 tests/readme/try.py
     test_on "${programs}crates/fletcher/|crates/capture|trivsome|native/|second/|samples/|tests/capture/|tests/reference/" \
         "a capture survives what cuts it off" python3 tests/capture/try.py
-    test_on 'crates/c_|include/|native/|examples/|samples/|tests/library/|tests/reference/' "the library is used from C" sh tests/library/try.sh
+    test_on 'crates/c_|crates/fletcher/|crates/capture|include/|native/|examples/|samples/|tests/library/|tests/reference/' "the library is used from C" sh tests/library/try.sh
     test_on 'second/|compare/|bindings/|bench/|tests/rust/' "the Rust packages are laid out, and clippy has nothing to say" sh tests/rust/try.sh
     test_on 'second/' "the second program passes its own tests" cargo_test second
     test_on 'second/' "the second program and the proved ones agree" cargo_run second compare --seed 1 --frames "$FRAMES"

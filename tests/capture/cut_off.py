@@ -130,16 +130,17 @@ CALLS = "trace=openat,write,writev,pwrite64,fsync,fdatasync,rename,renameat,rena
 
 def calls_of(given):
     """The calls by which an append changes files, as strace sees them: each with the file's name, and of a write the place in the
-    file and the bytes. None if strace cannot be used."""
+    file and the bytes. None if strace cannot be used, even of a program that does nothing."""
     log = in_folder("calls")
     if not shutil.which("strace"):
         print("capture: left out, power that goes behind any call: there is no strace")
         return None
     trace = ["strace", "-f", "-xx", "-s", "70000", "-e", CALLS, "-o", str(log)]
-    status, _, said = ran([*trace, paths["program"], "append", "night"], given=given)
+    status, _, said = ran([*trace, "true"])
     if status != 0 or said:
         print(f"capture: left out, power that goes behind any call: strace does not work here, {said.strip()}")
         return None
+    wants("append under strace", ran([*trace, paths["program"], "append", "night"], given=given))
     opened, calls = {}, []
     for name, words, result in (found.groups() for line in log.read_text().splitlines() if (found := CALL.match(line))):
         texts = [bytes.fromhex(text.replace("\\x", "")) for text in TEXT.findall(words)]

@@ -6,13 +6,15 @@ use lib.ListN.{length, getD, take, drop, replicate}
 use lib.Dec.{eqb, leb}
 use Rattle.fletcher.specs.Fletcher.{fletcher}
 
--- the bytes of a block, of which the check is worked out over so many, and the most that are used for a payload
+-- the bytes of a block
 abbrev pub blockSize : ℕ
 blockSize = 512
 
+-- those over which its check is worked out
 abbrev pub checkedSize : ℕ
 checkedSize = 510
 
+-- the most that a payload has
 abbrev pub most : ℕ
 most = 504
 
@@ -36,11 +38,12 @@ unfinished b = eqb (number b) 0
 unfoldable pub inRange : List ℕ → Bool
 inRange b = leb 1 (used b) && leb (used b) most
 
--- its zeros: behind the used bytes
+-- all bytes are zeros
 abbrev pub allZero : List ℕ → Bool
 allZero [] = true
 allZero (b ∷ bs) = eqb b 0 && allZero bs
 
+-- its zeros: behind the used bytes
 unfoldable pub zerosBehind : List ℕ → Bool
 zerosBehind b = allZero (drop (6 + used b) (take checkedSize b))
 

@@ -10,39 +10,46 @@ use Rattle.capture.specs.declared.Cleared.{Cleared}
 use Rattle.capture.specs.declared.Held.{Held}
 use Rattle.capture.specs.declared.Part.{Part}
 
--- the number of each answer, 0 for one that is no refusal, and the values beside it
+-- ---- the number of each answer, 0 for one that is no refusal, and the values beside it
+-- of clearing
 abbrev pub clearedNumber : Cleared → ℕ
 clearedNumber Cleared.Done = 0
 clearedNumber (Cleared.Refused n) = n
 
+-- of how many are finished
 abbrev pub heldNumber : Held → ℕ
 heldNumber (Held.Blocks n) = 0
 heldNumber (Held.Refused n) = n
 heldNumber (Held.Bad p) = 33
 
+-- how many, or the bad block's place
 abbrev pub heldValues : Held → List ℕ
 heldValues (Held.Blocks n) = n ∷ []
 heldValues (Held.Refused n) = []
 heldValues (Held.Bad p) = p ∷ []
 
+-- of reading a place
 abbrev pub partNumber : Part → ℕ
 partNumber (Part.Bytes start n) = 0
 partNumber (Part.Refused n) = n
 partNumber (Part.Bad p) = 33
 
+-- where the payload begins and its length, or the bad block's place
 abbrev pub partValues : Part → List ℕ
 partValues (Part.Bytes start n) = start ∷ n ∷ []
 partValues (Part.Refused n) = []
 partValues (Part.Bad p) = p ∷ []
 
+-- ---- the answers
 -- a fresh capture is all zeros
 abbrev pub fresh : List ℕ
 fresh = replicate captureSize 0
 
--- clearing: 34 where lent memory has another size, else a fresh capture
+-- clearing: 34 where lent memory has another size
 abbrev pub clearedOf : List ℕ → Cleared
 clearedOf m = cond (whole m) Cleared.Done (Cleared.Refused 34)
 
+-- what it leaves: a fresh capture, or beside 34 what was there
 abbrev pub clearedBytes : List ℕ → List ℕ
 clearedBytes m = cond (whole m) fresh m
 

@@ -6,27 +6,31 @@ use lib.ListN.{length, take, drop}
 use lib.Dec.{eqb, leb}
 use Rattle.capture.specs.Blocks.{blockSize, number, payload, unfinished, intact}
 
--- the blocks of a capture, and its bytes
+-- the blocks of a capture
 abbrev pub places : ℕ
 places = 128
 
+-- its bytes
 abbrev pub captureSize : ℕ
 captureSize = 65536
 
+-- memory that has so many
 abbrev pub whole : List ℕ → Bool
 whole m = eqb (length m) captureSize
 
--- where the block at a place begins, the first at place 1; and the block
+-- where the block at a place begins, the first at place 1
 abbrev pub startOf : ℕ → ℕ
 startOf p = blockSize * (p - 1)
 
+-- the block at a place
 unfoldable pub blockAt : List ℕ → ℕ → List ℕ
 blockAt m p = take blockSize (drop (startOf p) m)
 
--- the block at a place is unfinished, or has a number other than 0
+-- it is unfinished
 abbrev pub unfinishedAt : List ℕ → ℕ → Bool
 unfinishedAt m p = unfinished (blockAt m p)
 
+-- it has a number other than 0
 abbrev pub numbered : List ℕ → ℕ → Bool
 numbered m p = not (unfinishedAt m p)
 
@@ -44,17 +48,19 @@ abbrev pub firstFrom : (ℕ → Bool) → ℕ → ℕ → ℕ
 firstFrom test zero p = 0
 firstFrom test (suc k) p = cond (test p) p (firstFrom test k (p + 1))
 
--- the first bad block, and the first unfinished one; 0 if there is none
+-- the place of the first bad block, 0 if there is none
 unfoldable pub firstBad : List ℕ → ℕ
 firstBad m = firstFrom (bad m) places 1
 
+-- the first unfinished place, 0 if there is none
 unfoldable pub firstUnfinished : List ℕ → ℕ
 firstUnfinished m = firstFrom (unfinishedAt m) places 1
 
--- what is found: the payloads of the finished blocks, in the order of their places
+-- the payloads of the blocks that have a number, of so many places from one on
 abbrev pub foundFrom : List ℕ → ℕ → ℕ → List (List ℕ)
 foundFrom m zero p = []
 foundFrom m (suc k) p = cond (numbered m p) (payload (blockAt m p) ∷ foundFrom m k (p + 1)) (foundFrom m k (p + 1))
 
+-- what is found: the payloads of the finished blocks, in the order of their places
 unfoldable pub found : List ℕ → List (List ℕ)
 found m = foundFrom m places 1

@@ -9,12 +9,13 @@ use Rattle.capture.specs.Captures.{whole, startOf, firstBad, firstUnfinished}
 use Rattle.capture_append.specs.Stores.{stores, storedFrom}
 use Rattle.capture_append.specs.declared.Taken.{Taken}
 
--- the number of an answer, 0 for one that is no refusal, and the value beside it
+-- the number of an answer, 0 for one that is no refusal
 abbrev pub takenNumber : Taken → ℕ
 takenNumber (Taken.At p) = 0
 takenNumber (Taken.Refused n) = n
 takenNumber (Taken.Bad p) = 33
 
+-- the place of the block, or of the first bad one
 abbrev pub takenValues : Taken → List ℕ
 takenValues (Taken.At p) = p ∷ []
 takenValues (Taken.Refused n) = []
@@ -33,11 +34,12 @@ takenOf m x =
     (cond (eqb (firstUnfinished m) 0) (Taken.Refused 32)
     (Taken.At (firstUnfinished m)))))
 
--- memory after k of its stores, or after all if there are no more; as it came beside a refusal
+-- memory after k stores of an append with this answer, or after all if there are no more; as it came beside a refusal
 abbrev pub bytesAt : Taken → List ℕ → List ℕ → ℕ → List ℕ
 bytesAt (Taken.At p) m x k = storedFrom m (startOf p) (blockOf p x) (min k stores)
 bytesAt (Taken.Refused n) m x k = m
 bytesAt (Taken.Bad p) m x k = m
 
+-- after those of an append of a payload
 unfoldable pub takenBytes : List ℕ → List ℕ → ℕ → List ℕ
 takenBytes m x k = bytesAt (takenOf m x) m x k

@@ -288,12 +288,20 @@ pub left-good : (m : List ℕ) → Left m → firstBad m ≡ 0
 left-good m l =
     sym (first-bad-same (after (l .series)) m (l .alike)) ∙ holds-good (after (l .series)) (kept (l .series)) (series-holds (l .series))
 
--- a capture that no series leaves, but for what stands in unfinished blocks, answers 33
-pub not-left : (m : List ℕ) → length m ≡ 65536 → Bytes m → (Left m → ⊥) → heldOf m ≡ Held.Bad (firstBad m)
-unfolding heldOf
-not-left m long bytes none = go (eqb (firstBad m) 0) refl
+-- a capture that no series leaves, but for what stands in unfinished blocks, has a bad one
+left-by-none : (m : List ℕ) → length m ≡ 65536 → Bytes m → (Left m → ⊥) → FirstBadAt m (firstBad m)
+left-by-none m long bytes none = go (eqb (firstBad m) 0) refl
   where
-    go : (s : Bool) → eqb (firstBad m) 0 ≡ s
-        → cond (not (whole m)) (Held.Refused 34) (cond (not s) (Held.Bad (firstBad m)) (Held.Blocks (length (found m)))) ≡ Held.Bad (firstBad m)
+    go : (s : Bool) → eqb (firstBad m) 0 ≡ s → FirstBadAt m (firstBad m)
     go true e = absurd (none (good-left m long bytes (eqb-true (firstBad m) 0 e)))
-    go false e = rw (eq-eqb (length m) 65536 long) refl
+    go false e = first-said m (firstBad m) refl e
+
+-- and is answered 33 by each call
+pub not-left : (m : List ℕ) → length m ≡ 65536 → Bytes m → (Left m → ⊥) → heldOf m ≡ Held.Bad (firstBad m)
+not-left m long bytes none = first-bad m (firstBad m) long (left-by-none m long bytes none)
+
+pub not-left-append : (m x : List ℕ) → length m ≡ 65536 → Bytes m → misfit x ≡ false → (Left m → ⊥) → takenOf m x ≡ Taken.Bad (firstBad m)
+not-left-append m x long bytes fits none = first-bad-append m x (firstBad m) long fits (left-by-none m long bytes none)
+
+pub not-left-payload : (m : List ℕ) (p : ℕ) → length m ≡ 65536 → Bytes m → (Left m → ⊥) → partOf m p ≡ Part.Bad (firstBad m)
+not-left-payload m p long bytes none = first-bad-payload m (firstBad m) p long (left-by-none m long bytes none)
