@@ -3,8 +3,9 @@ ghost use mathlib.Core.Path.{_≡_};
 ghost use mathlib.Core.List.{[], _∷_, _++_};
 ghost use Prim.Native.Nat.{_/_, _%_, _≤_};
 ghost use lib.ListN.{length, replicate};
+ghost use Rattle.fletcher.specs.Fletcher.{fletcher};
 ghost use Rattle.capture.specs.Blocks.{checkedOf, blockOf};
-use fletcher::check_sums;
+use fletcher::Sums;
 
 // A block of zeros.
 fn zeros() -> [u8; 512]
@@ -39,13 +40,32 @@ fn filled(place: usize, payload: &[u8]) -> [u8; 512]
     block
 }
 
-// The block of a payload of at most 504 bytes at a place.
-pub(crate) fn block_of(place: usize, payload: &[u8]) -> [u8; 512]
-    requires { ⌜ (place ≤ 128) × (length (now payload) ≤ 504) ⌝ }
+// The sums of all but the check, by those of the payload. Each byte of the head goes into the second sum once for itself and once for each
+// byte behind it; the zeros behind the payload bring nothing, but its first sum goes into the second once for each of them.
+fn checked(place: usize, payload: &[u8], s: Sums) -> Sums
+    requires { ⌜ (place ≤ 128) × (length (now payload) ≤ 504) × (s ≡ fletcher (now payload)) ⌝ }
+    ensures { λ r. ⌜ r ≡ fletcher (checkedOf place (now (payload .entry))) ⌝ }
+{
+    let n = payload.len();
+    let high = n / 256;
+    let low = n % 256;
+    let a = s.first as usize;
+    let b = s.second as usize;
+    let first = place + high + low + a;
+    let second = 507 * place + 506 * high + 505 * low + b + (504 - n) * a;
+    Sums {
+        first: (first % 255) as u8,
+        second: (second % 255) as u8,
+    }
+}
+
+// The block of a payload of at most 504 bytes, whose sums are these, at a place.
+pub(crate) fn block_of(place: usize, payload: &[u8], s: Sums) -> [u8; 512]
+    requires { ⌜ (place ≤ 128) × (length (now payload) ≤ 504) × (s ≡ fletcher (now payload)) ⌝ }
     ensures { λ r. ⌜ r ≡ blockOf place (now (payload .entry)) ⌝ }
 {
     let mut block = filled(place, payload);
-    let sums = check_sums(&block, 0, 510);
+    let sums = checked(place, payload, s);
     block[510] = sums.first;
     block[511] = sums.second;
     block

@@ -8,12 +8,17 @@ use capture::MOST;
 use capture::PLACES;
 use capture::SIZE;
 use capture::reading::finished;
+use fletcher::check_sums;
 
 mod building;
 mod storing;
 
 use building::block_of;
 use storing::store_some;
+
+// A payload is summed before it is known to be no longer than 504 bytes, up to so many: where the compiler knows that it is short it takes
+// fewer bytes at a time.
+const SUMMED: usize = 2048;
 
 // What an append answers.
 pub enum Taken {
@@ -34,6 +39,7 @@ pub fn append_cut(capture: &mut [u8], payload: &[u8], stores: usize) -> Taken
     if capture.len() != SIZE {
         return Taken::Refused(34);
     }
+    let sums = check_sums(payload, 0, SUMMED);
     if payload.len() == 0 {
         return Taken::Refused(31);
     }
@@ -45,7 +51,7 @@ pub fn append_cut(capture: &mut [u8], payload: &[u8], stores: usize) -> Taken
             if PLACES <= n {
                 return Taken::Refused(32);
             }
-            let block = block_of(n + 1, payload);
+            let block = block_of(n + 1, payload, sums);
             store_some(capture, BLOCK * n, &block, stores);
             Taken::At(n + 1)
         }

@@ -1,12 +1,12 @@
 -- Sums over bytes: in parts, within 0 to 254, and reduced late.
-use Prim.Native.Nat.{ℕ, suc, _+_, _-_, _*_, _%_, _<_, _≤_, min}
+use Prim.Native.Nat.{ℕ, zero, suc, _+_, _-_, _*_, _%_, _<_, _≤_, min}
 use mathlib.Core.Path.{_≡_, refl, sym, ap, ap₂, _∙_}
 use mathlib.Core.Bool.{Bool, true, false}
 use mathlib.Core.List.{List, [], _∷_, _++_}
 use native.Mathlib.Omega.{arith}
 use native.Mathlib.Nat.{mul-add, add-mul, one-mul}
 use borrow.Author.Tests.{leb-true, leb-false}
-use lib.ListN.{getD, take, drop, length, length-drop}
+use lib.ListN.{getD, take, drop, length, replicate, length-drop, length-replicate}
 use lib.Seq.{drop-drop, take-add, take-all}
 use lib.Dec.{leb}
 use Rattle.list_laws.proofs.Turns.{at-drop}
@@ -128,3 +128,42 @@ sums-all bs from to end r there is =
 pub sums-none : (bs : List ℕ) (from to end : ℕ) (r : Sums) → end ≡ min to (length bs) → end ≤ from → r ≡ sumsOf 0 0 → r ≡ fletcher (between from to bs)
 sums-none bs from to end r there none is =
     sums-all bs from to end r there (is ∙ ap (withBytes (sumsOf 0 0)) (sym (between-none bs from end none)))
+
+-- ---- sums in parts
+-- the first byte
+pub first-byte : (x : ℕ) → withByte (sumsOf 0 0) x ≡ sumsOf (x % 255) (x % 255)
+first-byte x = ap₂ sumsOf (omega arith) (omega arith)
+
+-- bytes behind others: their own sums are added, and the first sum before them goes into the second once for each
+pub sums-behind : (a b : ℕ) (xs : List ℕ)
+    → withBytes (sumsOf (a % 255) (b % 255)) xs ≡ sumsOf ((a + fletcher xs .first) % 255) ((b + length xs * a + fletcher xs .second) % 255)
+unfolding fletcher
+sums-behind a b [] = ap₂ sumsOf (omega arith) (omega arith)
+sums-behind a b (x ∷ xs) =
+    let l = length xs in
+    let own : withBytes (sumsOf 0 0) (x ∷ xs) ≡ sumsOf ((x + fletcher xs .first) % 255) ((x + l * x + fletcher xs .second) % 255) =
+    ap (λ (s : Sums). withBytes s xs) (first-byte x) ∙ sums-behind x x xs in
+    let e : l * (a + x) ≡ l * a + l * x = mul-add l a x in
+    let more : suc l ≡ l + 1 = omega arith in
+    let g : suc l * a ≡ l * a + a = ap (λ (j : ℕ). j * a) more ∙ add-mul l 1 a ∙ ap (λ (j : ℕ). l * a + j) (one-mul a) in
+    ap (λ (s : Sums). withBytes s xs) (reduced-byte a b x) ∙ sums-behind (a + x) (b + (a + x)) xs
+    ∙ sym (ap₂ sumsOf (ap (λ (s : Sums). (a + s .first) % 255) own ∙ omega arith) (ap (λ (s : Sums). (b + suc l * a + s .second) % 255) own ∙ omega (arith, e, g)))
+
+-- zeros bring nothing
+pub sums-zeros : (k : ℕ) → fletcher (replicate k 0) ≡ sumsOf 0 0
+unfolding fletcher
+sums-zeros zero = refl
+sums-zeros (suc k) = sums-zeros k
+
+-- zeros behind bytes
+pub zeros-behind : (xs : List ℕ) (k : ℕ) → fletcher (xs ++ replicate k 0) ≡ sumsOf (fletcher xs .first) ((fletcher xs .second + k * fletcher xs .first) % 255)
+unfolding fletcher
+zeros-behind xs k =
+    let s = fletcher xs in
+    let h : Small s = withBytes-small (sumsOf 0 0) xs (omega arith, omega arith) in
+    let z = sums-zeros k in
+    withBytes-append (sumsOf 0 0) xs (replicate k 0) ∙ ap (λ (t : Sums). withBytes t (replicate k 0)) (sym (small-reduced s h))
+    ∙ sums-behind (s .first) (s .second) (replicate k 0)
+    ∙ ap₂ sumsOf (ap (λ (t : Sums). (s .first + t .first) % 255) z ∙ omega (arith, h .0))
+    (ap (λ (j : ℕ). (s .second + j * s .first + fletcher (replicate k 0) .second) % 255) (length-replicate k 0)
+    ∙ ap (λ (t : Sums). (s .second + k * s .first + t .second) % 255) z ∙ omega arith)

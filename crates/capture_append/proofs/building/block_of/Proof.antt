@@ -8,11 +8,8 @@ use Rattle.capture_append.proofs.building.block_of.Tie as tie
 filled-requires : tie.Need-filled-requires
 filled-requires c κs = search needs
 
-slice-aggregate-check-sums : tie.Need-slice-aggregate-check-sums
-slice-aggregate-check-sums c = search needs
-
-check-sums-requires : tie.Need-check-sums-requires
-check-sums-requires c κs = search needs
+checked-requires : tie.Need-checked-requires
+checked-requires c κs = search needs
 
 array-write-block : tie.Need-array-write-block
 array-write-block c = search needs
@@ -22,17 +19,16 @@ array-write-block-2 c = search needs
 
 returns : tie.Need-returns
 returns c =
-    let a = c .before .before .before .before .args in
-    let b = c .before .before .filled in
-    block-is (a .place) (a .payload .now) (omega arith) (omega arith) (b .result) (c .check-sums .result) (b .ensures) (c .check-sums .ensures)
+    let a = c .before .before .before .args in
+    let b = c .before .filled in
+    block-is (a .place) (a .payload .now) (omega arith) (omega arith) (b .result) (c .checked .result) (b .ensures) (c .checked .ensures)
 
 pub block-of-spec : {M : Type 1} → statement M
 block-of-spec =
     tie.close
     (tie.spec
     filled-requires
-    slice-aggregate-check-sums
-    check-sums-requires
+    checked-requires
     array-write-block
     array-write-block-2
     returns)
