@@ -13,14 +13,15 @@ use Rattle.digits.specs.declared.halves.Place.the-variants.{None}
 use Rattle.layout.specs.Places.{firstBad}
 use Rattle.layout.specs.Checks.{Check, must, firstFail}
 use Rattle.layout.proofs.CheckLaws.{numbered, firstFail-append, none-fails, all-hold}
-use Rattle.answers.specs.Answers.{named, answerNumber, placeValues}
+use Rattle.answers.specs.Answers.{named, answerNumber}
 use Rattle.answers.specs.declared.Frame.{Frame}
 use Rattle.answers.specs.declared.Answer.the-variants.{NoFrame, Refused}
 use Rattle.frame.specs.Header.{Header, lengthOf, own, body, start, outlineChecks, outlinePlace, Outlined}
+use Rattle.frame.specs.Figures.{beside, atMost}
 use Rattle.frame.proofs.HeaderLaws.{outlined-passes, passes-outlined}
-use Rattle.exchange.specs.Reading.{Exchange, Behind, atLeast, atMost, checksOf, placeOf, frameAt, answerBy}
+use Rattle.exchange.specs.Reading.{Exchange, Behind, atLeast, checksOf, placeOf, frameAt, answerBy}
 use Rattle.exchange.specs.Trips.{AnswerSays}
-use Rattle.exchange.proofs.NumberLaws.{fails-at-least, fails-at-most, number-named, values-accepted, values-early, values-refused}
+use Rattle.exchange.proofs.NumberLaws.{fails-at-least, fails-at-most, number-named, values-named}
 
 -- ---- some checks and then others
 at-most-append : (k : ℕ) (cs ds : List Check) → atMost k cs ≡ true → atMost k ds ≡ true → atMost k (cs ++ ds) ≡ true
@@ -114,7 +115,6 @@ module _ {H : Header} (E : Exchange H) where
     pub answer-says : (t : List ℕ) → AnswerSays E t
     answer-says t =
         let n = firstFail (checksOf E t) in
-        let same = answer-number t in
         let all-numbered = numbered-append (outlineChecks H t) (E .checks (own H t)) refl (seven-numbered (E .checks (own H t)) (law .from-seven (own H t))) in
         record {
           exactly = (λ p. all-hold (checksOf E t) all-numbered (sym (answer-number t) ∙ p), λ h. answer-number t ∙ none-fails (checksOf E t) h);
@@ -122,9 +122,8 @@ module _ {H : Header} (E : Exchange H) where
           at-most =
               rw (answer-number t)
               (fails-at-most 13 (checksOf E t) (at-most-append 13 (outlineChecks H t) (E .checks (own H t)) refl (law .to-thirteen (own H t))));
-          accepted-values = λ z. values-accepted n (frameAt E t) (placeOf E n t) (sym same ∙ z);
-          early-values = λ l h.
-              values-early n (frameAt E t) (placeOf E n t) (omega (arith, l, same)) (omega (arith, h, same)) ∙ ap (λ (k : ℕ). placeValues (placeOf E k t)) (sym same);
-          refused-values = λ l.
-              values-refused n (frameAt E t) (placeOf E n t) (omega (arith, l, same)) ∙ ap (λ (k : ℕ). lengthOf H t ∷ placeValues (placeOf E k t)) (sym same);
+          values =
+              let f = own H t in
+              values-named n (frameAt E t) (placeOf E n t)
+              ∙ ap (λ (k : ℕ). beside k (E .format f ∷ E .seq f ∷ lengthOf H t ∷ []) (lengthOf H t) (placeOf E k t)) (sym (answer-number t));
         }

@@ -14,6 +14,7 @@ use Rattle.answers.specs.Answers.{named}
 use Rattle.answers.specs.declared.Frame.{Frame}
 use Rattle.answers.specs.declared.Answer.{Answer}
 use Rattle.frame.specs.Header.{Header, lengthOf, own, body, start, outlineChecks, outlinePlace}
+use Rattle.frame.specs.Figures.{atMost}
 
 pub record Exchange (H : Header) : Type 0 where
   -- of a frame's own bytes: checks 7 to 13 in their order, the cells of its body, and the format and the number that an acceptance tells
@@ -22,14 +23,10 @@ pub record Exchange (H : Header) : Type 0 where
   pub format : List ℕ → ℕ
   pub seq : List ℕ → ℕ
 
--- every check's number is at least k, and at most k
+-- every check's number is at least k
 abbrev pub atLeast : ℕ → List Check → Bool
 atLeast k [] = true
 atLeast k (must n t ∷ checks) = leb k n && atLeast k checks
-
-abbrev pub atMost : ℕ → List Check → Bool
-atMost k [] = true
-atMost k (must n t ∷ checks) = leb n k && atMost k checks
 
 -- what an exchange has to show: its own checks answer 7 to 13 only, and 11 where the cells of the body have a bad digit
 pub record Behind {H : Header} (E : Exchange H) : Type 0 where

@@ -8,10 +8,11 @@ use lib.ListN.{length, drop}
 use lib.Dec.{eqb}
 use Rattle.layout.specs.Cells.{size, goodCells}
 use Rattle.layout.specs.Checks.{firstFail, allHold}
-use Rattle.answers.specs.Answers.{answerNumber, answerValues, placeValues}
+use Rattle.answers.specs.Answers.{answerNumber, answerValues}
 use Rattle.answers.specs.declared.Frame.{Frame}
 use Rattle.answers.specs.declared.Answer.the-variants.{Accepted}
 use Rattle.frame.specs.Header.{Header, lengthOf, own, body, front, rear}
+use Rattle.frame.specs.Figures.{beside}
 use Rattle.frame.specs.Writing.{writtenOver}
 use Rattle.frame.specs.Codec.{Codec, valuesOf, Reads, legal, frameOf}
 use Rattle.exchange.specs.Reading.{Exchange, checksOf, placeOf, frameAt, answerBy}
@@ -35,11 +36,8 @@ pub record AnswerSays {H : Header} (E : Exchange H) (t : List ℕ) : Type 0 wher
   pub first : answerNumber (answerBy E t) ≡ firstFail (checksOf E t)
   pub at-most : answerNumber (answerBy E t) ≤ 13
   -- beside 0 the format, the number and the length; beside 1 to 5 no length, beside the others the length; and the place of a bad digit, if there is one
-  pub accepted-values : answerNumber (answerBy E t) ≡ 0 → let f = own H t in answerValues (answerBy E t) ≡ E .format f ∷ E .seq f ∷ lengthOf H t ∷ []
-  pub early-values : 1 ≤ answerNumber (answerBy E t) → answerNumber (answerBy E t) ≤ 5
-      → answerValues (answerBy E t) ≡ placeValues (placeOf E (answerNumber (answerBy E t)) t)
-  pub refused-values : 6 ≤ answerNumber (answerBy E t)
-      → answerValues (answerBy E t) ≡ lengthOf H t ∷ placeValues (placeOf E (answerNumber (answerBy E t)) t)
+  pub values : let f = own H t in let n = answerNumber (answerBy E t) in
+      answerValues (answerBy E t) ≡ beside n (E .format f ∷ E .seq f ∷ lengthOf H t ∷ []) (lengthOf H t) (placeOf E n t)
 
 -- the messages of one codec
 pub record Trips {H : Header} {M : Type 0} (E : Exchange H) (C : Codec H M) (has : ℕ → Bool) (Shaped : M → Type 0) (none : M) : Type 0 where

@@ -8,5 +8,4 @@ pub mod PlaceTheorems
 pub mod AsBefore
 pub mod EdgesHold
 pub mod MoreBytes
-pub mod Lengths
 pub mod Determined

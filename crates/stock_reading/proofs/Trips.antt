@@ -1,30 +1,26 @@
 -- Acceptance exactly by the checks, the figures beside an answer, and both round trips through the reading of a line; once for any format.
 use Prim.Native.Nat.{ℕ}
 use mathlib.Core.Path.{_≡_, refl, sym, ap, _∙_}
-use mathlib.Core.Bool.{Bool, true, false, cond}
-use mathlib.Core.List.{List, [], _∷_}
+use mathlib.Core.Bool.{Bool, true}
+use mathlib.Core.List.{List}
 use mathlib.Core.Logic.{_↔_}
-use native.Mathlib.Omega.{arith}
 use lib.ListN.{length, getD}
-use lib.Dec.{eqb, leb}
-use borrow.Author.Tests.{eq-eqb, eqb-true, eqb-false, leb-true, leb-false}
+use lib.Dec.{eqb}
+use borrow.Author.Tests.{eq-eqb, eqb-true}
 use Rattle.layout.specs.Cells.{encode}
 use Rattle.layout.specs.Checks.{firstFail}
-use Rattle.answers.specs.Answers.{answerNumber, answerValues, placeValues}
+use Rattle.answers.specs.Answers.{answerNumber}
 use Rattle.exchange.specs.Trips as common
 use Rattle.exchange.specs.Trips.{Speaks}
 use Rattle.exchange.proofs.ReadingLaws as any
 use Rattle.exchange.proofs.TripLaws.{trips as trips-of}
 use Rattle.frame.proofs.CodecLaws as laws
-use Rattle.stock_frame.specs.Outline.{lengthOf, own, body, business, format, version, sequence, kindValues, outlineOf}
+use Rattle.stock_frame.specs.Outline.{lengthOf, own, body, business, format, version, sequence, kindValues}
 use Rattle.stock_frame.specs.Format.{bodyChecks}
 use Rattle.stock_frame.specs.Writing.{writtenOver}
 use Rattle.stock_frame.specs.Codec.{Codec, frameOf}
 use Rattle.answers.specs.declared.Answer.the-variants.{Accepted}
-use Rattle.stock_frame.specs.declared.head.Outline.{Outline}
-use Rattle.stock_frame.specs.declared.head.Outline.the-variants.{Whole, Not}
 use Rattle.layout.specs.Checks.{allHold}
-use Rattle.stock_frame.specs.Figures.{outlineNumber, outlineValues}
 use Rattle.stock_frame.proofs.FormatsLaws.{Listed}
 use Rattle.stock_frame.proofs.OutlineLaws.{kind-frame}
 use Rattle.stock_frame.proofs.FormatLaws.{bodied-passes, passes-bodied}
@@ -37,11 +33,10 @@ use Rattle.stock_prices.specs.Prices.{twelveCodec, noPrices, ShapedPrices}
 use Rattle.stock_prices.proofs.PriceLaws.{prices-lawful}
 use Rattle.stock_halts.specs.Halts.{nineteenCodec, noHalt, ShapedHalt}
 use Rattle.stock_halts.proofs.HaltLaws.{halts-lawful}
-use Rattle.stock_reading.specs.Reading.{formats, formatOf, isFormat, stock, checks, placeOf, answerOf, messageBy}
+use Rattle.stock_reading.specs.Reading.{formats, formatOf, isFormat, stock, checks, answerOf, messageBy}
 use Rattle.stock_reading.specs.Trips.{AnswerSays, Trips}
 use Rattle.stock_reading.proofs.Exchange.{behind}
 use Rattle.stock_reading.proofs.HeaderLaws.{five-listed, six-listed, twelve-listed, nineteen-listed, header-holds, frame-known, frame-holds}
-use Rattle.stock_reading.proofs.ReadingLaws.{answer-not}
 
 -- ---- the answer to any bytes
 module _ (t : List ℕ) where
@@ -58,9 +53,6 @@ module _ (t : List ℕ) where
       let own-checks = sym (any.checks-outlined stock t (any.accepted-outlined stock t z)) ∙ z in
       header-holds (business f) (format f) (version f) (bodyChecks (formatOf (format f)) (body f)) own-checks .1
 
-  abbrev n : ℕ
-  n = answerNumber (answerOf t)
-
   says : common.AnswerSays stock t
   says = any.answer-says stock behind t
 
@@ -71,29 +63,12 @@ module _ (t : List ℕ) where
     format-is = λ p. format-accepted (sym answer-number ∙ p);
     first = says .first;
     at-most = says .at-most;
-    values = go (eqb n 0) (leb n 5) refl refl;
+    values = says .values;
   }
-    where
-      go : (x y : Bool) → eqb n 0 ≡ x → leb n 5 ≡ y
-          → let p = placeValues (placeOf n t) in answerValues (answerOf t) ≡ cond x (format (own t) ∷ sequence (own t) ∷ lengthOf t ∷ []) (cond y p (lengthOf t ∷ p))
-      go true y e q = says .accepted-values (eqb-true n 0 e)
-      go false true e q = says .early-values (omega (arith, eqb-false n 0 e)) (leb-true n 5 q)
-      go false false e q = says .refused-values (leb-false n 5 q)
 
   -- a frame is accepted exactly when every check of the rules' table holds
   pub accepted-exactly : (answerNumber (answerOf t) ≡ 0) ↔ allHold (checks t)
   accepted-exactly = answer-says .exactly
-
--- where the outline is not whole, its number and its values are the answer's
-pub outline-answers : (t : List ℕ) → (outlineNumber (outlineOf t) ≡ 0 → ⊥)
-    → (answerNumber (answerOf t) ≡ outlineNumber (outlineOf t)) × (answerValues (answerOf t) ≡ outlineValues (outlineOf t))
-outline-answers t h = go (outlineOf t) refl
-  where
-    go : (o : Outline) → outlineOf t ≡ o → (answerNumber (answerOf t) ≡ outlineNumber (outlineOf t)) × (answerValues (answerOf t) ≡ outlineValues (outlineOf t))
-    go (Whole head) e = absurd (h (ap outlineNumber e))
-    go (Not a) e =
-        let same = answer-not t a e in
-        (ap answerNumber (sym same) ∙ sym (ap outlineNumber e), ap answerValues (sym same) ∙ sym (ap outlineValues e))
 
 -- ---- any codec whose format is in the list: the exchange's checks on a frame of it are the codec's rules
 speaks : {M : Type 0} (C : Codec M) → Listed (C .form) formats → Speaks stock (asCommon C) (λ n. eqb n (C .form .number))
