@@ -49,7 +49,7 @@ quick_tests() {
 # once all is proved: the programs and the library as their users do, and the second program
 user_tests() {
     export TRIVSOME_EMULATED=yes # rt has just made the programs
-    programs="crates/line_feed/|crates/stock_texts/|$(for main in crates/*/src/main.rt; do printf '%s/|' "${main%/src/main.rt}"; done)"
+    programs="crates/line_feed/|crates/lines/|crates/stock_texts/|$(for main in crates/*/src/main.rt; do printf '%s/|' "${main%/src/main.rt}"; done)"
     test_on "${programs}trivsome|native/|include/|examples/|samples/|bindings/rust/Cargo|tests/trivsome/|tests/gaps/|tests/reference/" \
         "trivsome runs, and fails loudly" sh tests/trivsome/try.sh
     test_on "${programs}trivsome|samples/|tests/live/|tests/listing/|tests/messages/|tests/refusals/|tests/board/|tests/derivatives/|tests/reference/" \

@@ -328,7 +328,8 @@ uint64_t trivsome_board_rows(const uint64_t *heads, size_t head_count, const uin
  * bytes, other bytes than zeros behind them, or another check. */
 
 /* Makes a fresh capture of any bytes: 0 or 34. It goes from the first byte on. If power goes meanwhile and two or more blocks were
- * finished, one may be left behind a block whose number is gone: then the other calls answer 33 until this one is done again. */
+ * finished, one may be left behind a block whose number is gone: then the other calls answer 33 (an append after its 31) until this one is done
+ * again. */
 uint64_t trivsome_capture_clear(uint8_t *capture, size_t size);
 
 /* Appends a payload of 1 to 504 bytes at the first unfinished place: 0 with the place (trivsome_block), 34, 31, 33 or 32. */

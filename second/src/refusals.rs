@@ -119,7 +119,7 @@ pub(crate) fn why_refused(why: Refusal, frame: &[u8]) -> &'static str {
         Refusal::Format => "the business is not 01, or the format is not 05, 06, 12 or 19",
         Refusal::Version => "the version is not that of the format",
         Refusal::Length => "the length is not one that the format, or the reveal byte, allows",
-        Refusal::Levels => "the reveal byte has more than 5 levels on a side, or levels beside the trade alone",
+        Refusal::Levels => "the reveal byte has more than 5 levels on a side, or levels with bit 0 set",
         Refusal::Digit => WHY_DIGIT,
         Refusal::Time => broken(frame)[0],
         Refusal::Field => broken(frame)[1],

@@ -32,7 +32,7 @@ WHY = {
     7: "the business is not 01, or the format is not 05, 06, 12 or 19",
     8: "the version is not that of the format",
     9: "the length is not one that the format, or the reveal byte, allows",
-    10: "the reveal byte has more than 5 levels on a side, or levels beside the trade alone",
+    10: "the reveal byte has more than 5 levels on a side, or levels with bit 0 set",
     11: "a packed field of the body has a bad digit",
 }
 # what can be the matter with the times and with the other fields of a format

@@ -32,7 +32,7 @@ refuses give-up ''
 # board and table take none, not even the word for another exchange's line
 for name in board table; do
     expect 1 ./trivsome $name derivatives-2015 <samples/capture >"$work/file" 2>"$work/said"
-    echo "$name: there is no argument" | cmp - "$work/said" || differs "$name says something else: $(cat "$work/said")"
+    echo "$name: takes no argument" | cmp - "$work/said" || differs "$name says something else: $(cat "$work/said")"
     [ ! -s "$work/file" ] || differs "$name derivatives-2015 prints something"
 done
 

@@ -1,5 +1,5 @@
-// A capture of 128 blocks in lent memory, kept so that a power loss leaves every block that was finished, and never half of one: it
-// is cleared, judged and read. It knows nothing of what the payloads are.
+// A capture of 128 blocks in lent memory, kept so that a power loss during an append costs no finished block, and half of one is never
+// read: it is cleared, judged and read. It knows nothing of what the payloads are.
 mod blocks;
 pub mod reading;
 mod searches;

@@ -8,7 +8,6 @@ ghost use Rattle.capture.specs.Searches.{partIn};
 use crate::BLOCK;
 use crate::Cleared;
 use crate::Held;
-use crate::PLACES;
 use crate::Part;
 use crate::SIZE;
 use crate::blocks::used_bytes;
@@ -46,7 +45,7 @@ pub fn finished(capture: &[u8]) -> Held
     Held::Blocks(n)
 }
 
-// Where the block at a place begins.
+// Where the block at a place begins; place 0 begins where the first does, as in the definition.
 fn start_of(place: usize) -> usize
     requires { ⌜ place ≤ places ⌝ }
     ensures { λ r. ⌜ r ≡ startOf place ⌝ }

@@ -1,12 +1,11 @@
 -- What reading and writing of the derivatives exchange promise: the laws of any exchange, of its header and of index values.
 use Prim.Native.Nat.{ℕ, _+_}
-use mathlib.Core.Path.{_≡_, refl, sym, ap, ap₂, _∙_}
-use mathlib.Core.Bool.{Bool, true, false, _&&_}
+use mathlib.Core.Path.{_≡_, refl, sym, ap, _∙_}
+use mathlib.Core.Bool.{true}
 use mathlib.Core.List.{List, [], _∷_, _++_}
-use native.Mathlib.Omega.{arith}
 use lib.ListN.{length, getD}
 use lib.Dec.{eqb}
-use borrow.Author.Tests.{eq-eqb, eqb-true}
+use borrow.Author.Tests.{eq-eqb}
 use Rattle.digits.proofs.TestLaws.{holds, all, _also_, together}
 use Rattle.layout.specs.Checks.{firstFail}
 use Rattle.layout.proofs.CheckLaws.{none-fails, all-hold}
@@ -24,7 +23,7 @@ use Rattle.exchange.proofs.TripLaws.{trips}
 use Rattle.exchange.proofs.PlaceLaws.{place-says}
 use Rattle.derivatives_frame.specs.Outline.{header, market, kind, sent, version}
 use Rattle.derivatives_frame.proofs.HeaderHolds.{law}
-use Rattle.derivatives_index.specs.Index.{numberOf, known, versionOf, bodyLength, timed, ruled, cellsOf, valuesOf, indexChecks, indexCodec, noIndex, ShapedIndex}
+use Rattle.derivatives_index.specs.Index.{numberOf, known, versionOf, bodyLength, timed, ruled, valuesOf, indexChecks, indexCodec, noIndex, ShapedIndex}
 use Rattle.derivatives_index.specs.declared.index.Index.{Index}
 use Rattle.derivatives_index.proofs.IndexLaws.{index-lawful}
 use Rattle.derivatives_index.proofs.FigureLaws.{length-index}

@@ -10,6 +10,7 @@ use Rattle.derivatives_index.specs.Index.{numberOf, indexCodec, ShapedIndex}
 use Rattle.derivatives_index.specs.declared.index.Index.{Index}
 use Rattle.derivatives_reading.specs.Reading.{isIndex, answerOf, indexIn}
 
+-- of every accepted frame, and of every index value that can be written
 pub record IndexSays : Type 0 where
   -- an accepted frame is I060 or I064
   pub format-is : (t : List ℕ) (f : Frame) → answerOf t ≡ Accepted f → isIndex (f .format) ≡ true

@@ -20,8 +20,7 @@ abbrev pub atMost : ℕ → List Check → Bool
 atMost k [] = true
 atMost k (must n t ∷ checks) = leb n k && atMost k checks
 
--- an outline's number is the first check's that fails, at most 6, and beside it stands what the rules name: of a whole one all the figures of
--- its header
+-- an outline's number is the first check's that fails, at most 6, and beside it stands what the rules name, of a whole one all of its header
 pub record OutlineTells (H : Header) (t all : List ℕ) (number : ℕ) (told : List ℕ) : Type 0 where
   pub first : number ≡ firstFail (outlineChecks H t)
   pub at-most : number ≤ 6

@@ -113,7 +113,7 @@ zeros-are (b ∷ l) h = go (eqb b 0) refl h (zeros-are l)
     go true e h ih = ap₂ _∷_ (eqb-true b 0 e) (ih h)
     go false e h ih = let y : _≡_ {A = ℕ} 0 1 = cc in absurd (omega (arith, y))
 
-both : (s t : Bool) → (s && t) ≡ true → (s ≡ true) × (t ≡ true)
+pub both : (s t : Bool) → (s && t) ≡ true → (s ≡ true) × (t ≡ true)
 both true t h = (refl, h)
 both false t h = let y : _≡_ {A = ℕ} 0 1 = cc in absurd (omega (arith, y))
 

@@ -14,7 +14,7 @@ use Rattle.capture_append.specs.Appending.{misfit, takenOf}
 use Rattle.capture_append.specs.declared.Taken.{Taken}
 use Rattle.laws_capture.specs.Exact.{TornAt, SameTold}
 use Rattle.laws_capture.specs.Orders.{beforeLast, storedBy, bytesBy, tornBytes, OrderTells}
-use Rattle.laws_capture.proofs.BlockTrip.{fits-from, byte-0, byte-1, byte-2}
+use Rattle.laws_capture.proofs.BlockTrip.{fits-from, byte-0, byte-1, byte-2, both}
 use Rattle.laws_capture.proofs.TornLaws.{number-store, block-store, store-other}
 use Rattle.laws_capture.proofs.HoldLaws.{block-long}
 use Rattle.laws_capture.proofs.CutTells.{placeOf}
@@ -49,11 +49,6 @@ taken-there m x q is = go (whole m) (misfit x) (eqb (firstBad m) 0) (eqb (firstU
           to = omega (arith, at .1, same);
           open-there = ap (unfinishedAt m) (sym same) ∙ at .2;
         }
-
-both : (a b : Bool) → (a && b) ≡ true → (a ≡ true) × (b ≡ true)
-both true true e = (refl, refl)
-both true false e = let y : _≡_ {A = ℕ} 0 1 = cc in absurd (omega (arith, y))
-both false b e = let y : _≡_ {A = ℕ} 0 1 = cc in absurd (omega (arith, y))
 
 -- ---- at the place that an append takes
 module _ (m x : List ℕ) (q : ℕ) (t : Takes m x q) where

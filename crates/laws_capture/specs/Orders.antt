@@ -31,6 +31,7 @@ bytesBy (Taken.Bad p) m x js = m
 unfoldable pub tornBytes : List ℕ → List ℕ → List ℕ → List ℕ
 tornBytes m x js = bytesBy (takenOf m x) m x js
 
+-- of memory, a payload and numbers of stores
 pub record OrderTells (m x js : List ℕ) : Type 0 where
   -- only the block of the place that the append takes is another, and it is unfinished as before
   pub torn : (q : ℕ) → takenOf m x ≡ Taken.At q → TornAt m (tornBytes m x js) q

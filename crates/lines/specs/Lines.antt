@@ -26,7 +26,7 @@ answerOn Derivatives = derivatives.answerOf
 abbrev pub answersOn : Exchange → Reading Answer
 answersOn e = answering (answerOn e)
 
--- the longest of them
+-- the longest frame of its line
 abbrev pub longestOn : Exchange → ℕ
 longestOn Stock = stock-line.longest
 longestOn Derivatives = derivatives-line.longest

@@ -84,6 +84,6 @@ fn main() {
     if os::arg_count() < 2 {
         report_board();
     } else {
-        io::write_all(STDERR_FILENO, b"board: there is no argument\n");
+        io::write_all(STDERR_FILENO, b"board: takes no argument\n");
     }
 }

@@ -82,7 +82,7 @@ fn put_body_why(out: &mut [u8], at: usize, n: u8, format: u8) -> usize {
         return put_all(
             out,
             at,
-            b"the reveal byte has more than 5 levels on a side, or levels beside the trade alone",
+            b"the reveal byte has more than 5 levels on a side, or levels with bit 0 set",
         );
     }
     if n == 11 {

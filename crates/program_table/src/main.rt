@@ -20,6 +20,6 @@ fn main() {
     if os::arg_count() < 2 {
         print_table();
     } else {
-        io::write_all(STDERR_FILENO, b"table: there is no argument\n");
+        io::write_all(STDERR_FILENO, b"table: takes no argument\n");
     }
 }

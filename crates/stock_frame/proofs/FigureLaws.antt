@@ -4,7 +4,7 @@ use mathlib.Core.Path.{refl}
 use mathlib.Core.List.{List}
 use lib.ListN.{length}
 use Rattle.frame.proofs.FigureLaws as common
-pub use Rattle.frame.proofs.FigureLaws.{number-named, values-named, fails-at-most, write-says}
+pub use Rattle.frame.proofs.FigureLaws.{number-named, fails-at-most}
 use Rattle.stock_frame.specs.Outline.{header, own, headOf, outlineOf}
 use Rattle.stock_frame.specs.Writing.{closable, closeAnswer}
 use Rattle.stock_frame.specs.Figures.{outlineNumber, outlineValues, headFigures, OutlineSays, WriteSays}

@@ -22,7 +22,6 @@ use Rattle.stock_reading.specs.Reading.{answerOf, messageBy}
 use Rattle.walk.specs.Walk.{Reading, Move, walkFrom}
 use Rattle.walk.specs.Answers.{answering}
 use Rattle.walk.specs.Lines as lines
-pub use Rattle.walk.specs.Lines.{stepNumber, stepValues}
 use Rattle.walk.specs.declared.moves.Step.{Step}
 use Rattle.stock_lines.specs.declared.frames.Ahead.{Ahead}
 use Rattle.stock_lines.specs.declared.frames.Ahead.the-variants.{Frame, Nothing}
@@ -65,7 +64,7 @@ sayings = record {
   size = λ s. answerLength (s .answer);
 }
 
--- the move at a place of a line, or that the walk stops there; its number and its values are `stepNumber` and `stepValues`
+-- the move at a place of a line, or that the walk stops there
 abbrev pub moveAt : Bool → ℕ → List ℕ → Step
 moveAt closed at line = lines.moveAt answerOf closed at line
 

@@ -1,5 +1,5 @@
--- The reading before it told where a bad digit is. Its checks stand here in full, so that they stay what they were; the reading of today is
--- held against them.
+-- The reading before it told where a bad digit is. Its table of checks is written out here, over the formats as they are defined; the reading
+-- of today is held against it.
 use Prim.Native.Nat.{ℕ, _+_, _-_}
 use mathlib.Core.Path.{_≡_}
 use mathlib.Core.Bool.{Bool, _&&_}
@@ -22,17 +22,19 @@ use Rattle.walk.specs.Walk.{Reading, Move, walkFrom, restOf}
 use Rattle.walk.specs.Answers.{answering}
 use Rattle.stock_reading.specs.Reading.{answerOf}
 
--- the length, bytes 2-3, and the frame's own bytes
+-- the length, bytes 2-3
 abbrev pub lengthBefore : List ℕ → ℕ
 lengthBefore t = value (take 2 (drop 1 t))
 
+-- the frame's own bytes
 abbrev pub ownBefore : List ℕ → List ℕ
 ownBefore t = take (lengthBefore t) t
 
--- business, format, version and number, bytes 4 to 10, and the numbers that they hold
+-- business, format, version and number, bytes 4 to 10
 abbrev pub kindCellsBefore : List Cell
 kindCellsBefore = digits 2 ∷ digits 2 ∷ digits 2 ∷ digits 8 ∷ []
 
+-- one of their numbers, from the first on
 abbrev pub kindBefore : ℕ → List ℕ → ℕ
 kindBefore k f = getD (decode kindCellsBefore (drop 3 f)) k 0
 
@@ -72,12 +74,13 @@ answerBefore t =
     let f = ownBefore t in
     said (firstFail (checksBefore t)) (record { format = kindBefore 1 f; seq = kindBefore 3 f; length = lengthBefore t })
 
--- its number, and the length beside it
+-- its number
 abbrev pub saidNumber : Said → ℕ
 saidNumber (accepted f) = 0
 saidNumber (noFrame n) = n
 saidNumber (refused n l) = n
 
+-- the length beside it
 abbrev pub saidLength : Said → ℕ
 saidLength (accepted f) = f .length
 saidLength (noFrame n) = 0
@@ -91,10 +94,11 @@ before = record { says = answerBefore; number = saidNumber; size = saidLength }
 abbrev pub AsBefore : Type 0
 AsBefore = (t : List ℕ) → unplaced (answerOf t) ≡ answerBefore t
 
--- nor is a line walked otherwise: without their places the moves are the old ones, and the same bytes wait
+-- a move without the place of a bad digit
 abbrev pub withoutPlace : Move Answer → Move Said
 withoutPlace m = record { at = m .at; said = unplaced (m .said); bytes = m .bytes }
 
+-- nor is a line walked otherwise: without their places the moves are the old ones, and the same bytes wait
 abbrev pub WalksAsBefore : Type 0
 WalksAsBefore = (closed : Bool) (at : ℕ) (t : List ℕ)
     → (walkFrom before closed at t ≡ map withoutPlace (walkFrom (answering answerOf) closed at t)) × (restOf before closed t ≡ restOf (answering answerOf) closed t)

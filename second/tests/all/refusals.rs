@@ -66,7 +66,7 @@ const TOLD: &str = r#"{"at":0,"answer":1,"bytes":2,"place":null,"hex":"4142","wh
 {"at":122,"answer":7,"bytes":14,"place":null,"hex":"1b001401070100000001091b0d0a","why":"the business is not 01, or the format is not 05, 06, 12 or 19"}
 {"at":136,"answer":8,"bytes":26,"place":null,"hex":"1b00260119020000000132333330202009120099999949f40d0a","why":"the version is not that of the format"}
 {"at":162,"answer":9,"bytes":32,"place":null,"hex":"1b00320106040000000132333330202009041506127880001000016423900d0a","why":"the length is not one that the format, or the reveal byte, allows"}
-{"at":194,"answer":10,"bytes":32,"place":null,"hex":"1b003201060400000001323333302020090415061278a3001000016423b30d0a","why":"the reveal byte has more than 5 levels on a side, or levels beside the trade alone"}
+{"at":194,"answer":10,"bytes":32,"place":null,"hex":"1b003201060400000001323333302020090415061278a3001000016423b30d0a","why":"the reveal byte has more than 5 levels on a side, or levels with bit 0 set"}
 {"at":226,"answer":11,"bytes":41,"place":58,"hex":"1b00410106040000000132333330202009041506127881001000016423100099500000000250690d0a","why":"a packed field of the body has a bad digit"}
 {"at":267,"answer":12,"bytes":26,"place":null,"hex":"1b00260119010000000132333330202024000099999949c80d0a","why":"the halt time is no time of day, or the resume time is neither a time of day nor 999999"}
 {"at":307,"answer":13,"bytes":14,"place":null,"hex":"1b00140105010000000101110d0a","why":"the category is not 00, 09, 90 or 99"}
