@@ -6,11 +6,9 @@ use Rattle.capture.proofs.blocks.check_fits.Goals as goal
 pub returns-then-bytes-start : goal.returns-then-bytes-start
 returns-then-bytes-start c =
     let a = c.args in
-    let s = c.check_sums-s in
-    first-misses a.bytes.now a.start s.result s.ensures (λ e. omega (arith, e))
+    first-misses a.bytes.now a.start c.check_sums-s.result c.check_sums-s.ensures (λ e. omega (arith, e))
 
 pub returns : goal.returns
 returns c =
     let a = c.args in
-    let s = c.check_sums-s in
-    second-decides a.bytes.now a.start s.result s.ensures (omega arith)
+    second-decides a.bytes.now a.start c.check_sums-s.result c.check_sums-s.ensures (omega arith)

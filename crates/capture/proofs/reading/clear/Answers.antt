@@ -8,7 +8,7 @@ use native.Mathlib.Omega.{arith}
 use Rattle.capture.proofs.reading.clear.Goals as goal
 
 pub returns-then-capture-ne-SIZE : goal.returns-then-capture-ne-SIZE
-returns-then-capture-ne-SIZE c = clear-refused c.args.capture.now (λ e. omega (arith, e))
+returns-then-capture-ne-SIZE c = let both = clear-refused c.args.capture.now (λ e. omega (arith, e)) in record { value = both.0; capture_after = both.1 }
 
 pub loop-i-init : goal.loop-i-init
 loop-i-init c = (omega arith, refl, refl)
@@ -25,4 +25,4 @@ pub returns : goal.returns
 returns c =
     let l = c.loop-i in
     let m = c.args.capture.now in
-    clear-done m (omega arith) l.capture (zero-all m l.capture l.i l.invariant.2 (omega arith))
+    let both = clear-done m (omega arith) l.capture (zero-all m l.capture l.i l.invariant.2 (omega arith)) in record { value = both.0; capture_after = both.1 }

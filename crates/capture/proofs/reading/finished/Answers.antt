@@ -7,13 +7,7 @@ pub returns-then-capture-ne-SIZE : goal.returns-then-capture-ne-SIZE
 returns-then-capture-ne-SIZE c = held-refused c.args.capture.now (λ e. omega (arith, e))
 
 pub returns-then-p-ne0 : goal.returns-then-p-ne0
-returns-then-p-ne0 c =
-    let n = c.sound_first-n in
-    let p = c.numbered_behind-p in
-    held-bad c.args.capture.now (omega arith) n.result p.result n.ensures.0 p.ensures (λ e. omega (arith, e))
+returns-then-p-ne0 c = held-bad c.args.capture.now (omega arith) c.sound_first-n.result c.numbered_behind-p.result c.sound_first-n.ensures.0 c.numbered_behind-p.ensures (λ e. omega (arith, e))
 
 pub returns : goal.returns
-returns c =
-    let n = c.sound_first-n in
-    let p = c.numbered_behind-p in
-    held-blocks c.args.capture.now (omega arith) n.result p.result n.ensures.0 p.ensures (omega arith)
+returns c = held-blocks c.args.capture.now (omega arith) c.sound_first-n.result c.numbered_behind-p.result c.sound_first-n.ensures.0 c.numbered_behind-p.ensures (omega arith)

@@ -9,8 +9,7 @@ use Rattle.capture.proofs.reading.payload_at.Goals as goal
 pub finished_part-requires : goal.finished_part-requires
 finished_part-requires c =
     let m = c.args.capture.now in
-    let n = c.n-1 in
-    let says = blocks-say m n.given.0.0 (sym n.given.1 ∙ c.finished.ensures) in
+    let says = blocks-say m c.in-Blocks.n (sym c.in-Blocks.is ∙ c.finished.ensures) in
     (says.0, omega (arith, says.2, found-most m says.1))
 
 pub returns-in-Blocks : goal.returns-in-Blocks

@@ -40,23 +40,22 @@ pub write_head-requires : goal.write_head-requires
 write_head-requires c = simp length-set (search rules)
 
 pub slice_bounds-xor_of-end : goal.slice_bounds-xor_of-end
-slice_bounds-xor_of-end c = omega (arith, rw length-set at c.write_head.auto.0)
+slice_bounds-xor_of-end c = omega (arith, rw length-set at c.write_head.auto.buf)
 
 pub bounds-buf-n : goal.bounds-buf-n
-bounds-buf-n c = omega (arith, rw length-set at c.write_head.auto.0)
+bounds-buf-n c = omega (arith, rw length-set at c.write_head.auto.buf)
 
 pub bounds-buf-n-2 : goal.bounds-buf-n-2
-bounds-buf-n-2 c = simp length-set (omega (arith, rw length-set at c.write_head.auto.0))
+bounds-buf-n-2 c = simp length-set (omega (arith, rw length-set at c.write_head.auto.buf))
 
 pub bounds-buf-n-3 : goal.bounds-buf-n-3
-bounds-buf-n-3 c = simp length-set (omega (arith, rw length-set at c.write_head.auto.0))
+bounds-buf-n-3 c = simp length-set (omega (arith, rw length-set at c.write_head.auto.buf))
 
 pub shape_of-buf : goal.shape_of-buf
-shape_of-buf c = simp length-set (omega (arith, rw length-set at c.write_head.auto.0))
+shape_of-buf c = simp length-set (omega (arith, rw length-set at c.write_head.auto.buf))
 
 pub returns : goal.returns
 returns c =
     let a = c.args in
-    let w = c.write_head in
     close-done a.market a.kind a.sent a.seq a.version a.n a.buf.now (omega arith) (omega arith) (omega arith) (omega arith) (omega arith) (omega arith)
-    w.new.buf c.xor_of-x.result w.ensures c.xor_of-x.ensures
+    c.write_head.new.buf c.xor_of-x.result c.write_head.ensures c.xor_of-x.ensures

@@ -12,10 +12,10 @@ pub shape_of-buf : goal.shape_of-buf
 shape_of-buf c =
     omega (
       arith,
-      c.write-4.auto.1.1.0,
-      c.write-3.auto.1.1.0,
-      c.write-2.auto.1.1.0,
-      rw (length-set, length-set) at c.write.auto.1.1.0,
+      c.write-4.auto.buf,
+      c.write-3.auto.buf,
+      c.write-2.auto.buf,
+      rw (length-set, length-set) at c.write.auto.buf,
     )
 
 pub returns : goal.returns

@@ -6,9 +6,7 @@ pub close-requires : goal.close-requires
 close-requires c = room-to-close c.args.at c.args.before c.args.ends.now c.requires
 
 pub returns-then-ends-at : goal.returns-then-ends-at
-returns-then-ends-at c =
-    let closed = c.close in
-    taken-closes c.args.at c.args.before c.args.ends.now c.requires closed.new.ends c.if-ends-at.true closed.ensures
+returns-then-ends-at c = let both = taken-closes c.args.at c.args.before c.args.ends.now c.requires c.close.new.ends c.if-ends-at.true c.close.ensures in record { value = both.0; ends_after = both.1 }
 
 pub returns : goal.returns
-returns c = taken-lowers c.args.at c.args.before c.args.ends.now c.requires c.if-ends-at.false
+returns c = let both = taken-lowers c.args.at c.args.before c.args.ends.now c.requires c.if-ends-at.false in record { value = both.0; ends_after = both.1 }
