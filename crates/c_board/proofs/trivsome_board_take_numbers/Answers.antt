@@ -8,4 +8,7 @@ use Rattle.c_board.proofs.trivsome_board_take_numbers.Goals as goal
 pub returns : goal.returns
 returns c =
     let told = c.quote_of-quote.ensures in
-    record { value = c.answer_outcome.ensures ∙ ap answer_outcome (c.take.ensures.value ∙ ap (taken_answer (let a = c.args in flat a.heads.now a.cells.now)) told); cells_after = c.take.ensures.cells_after ∙ ap (taken_flat (let a = c.args in flat a.heads.now a.cells.now)) told }
+    record {
+      value = c.answer_outcome.ensures ∙ ap answer_outcome (c.take.ensures.value ∙ ap (taken_answer (let a = c.args in flat a.heads.now a.cells.now)) told);
+      cells_after = c.take.ensures.cells_after ∙ ap (taken_flat (let a = c.args in flat a.heads.now a.cells.now)) told;
+    }

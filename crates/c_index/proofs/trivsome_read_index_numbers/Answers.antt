@@ -13,7 +13,12 @@ returns-then-not-is_index c =
     let o = c.args in
     let m = index_at (drop o.at o.line.now) in
     let a = ap (λ (r : IndexReading). r.answer) c.read_index-r.ensures in
-    let both = let other = sym (ap is_index a) ∙ sym c.is_index.ensures ∙ c.if-not-is_index.true in ( c.of_answer.ensures ∙ ap read_outcome a, ( cond-kept (is_index m.answer) m.index.contract o.contract.now other, ( cond-kept (is_index m.answer) (index_bytes m.index) o.bytes.now other, cond-kept (is_index m.answer) (index_numbers m.index) o.numbers.now other, ), ), ) in record { value = both.0; contract_after = both.1; bytes_after = both.2; numbers_after = both.3 }
+    let other = sym (ap is_index a) ∙ sym c.is_index.ensures ∙ c.if-not-is_index.true in record {
+      value = c.of_answer.ensures ∙ ap read_outcome a;
+      contract_after = cond-kept (is_index m.answer) m.index.contract o.contract.now other;
+      bytes_after = cond-kept (is_index m.answer) (index_bytes m.index) o.bytes.now other;
+      numbers_after = cond-kept (is_index m.answer) (index_numbers m.index) o.numbers.now other;
+    }
 
 pub returns : goal.returns
 returns c =
@@ -21,4 +26,9 @@ returns c =
     let m = index_at (drop o.at o.line.now) in
     let e = c.read_index-r.ensures in
     let a = ap (λ (r : IndexReading). r.answer) e in
-    let both = let is = sym (ap is_index a) ∙ sym c.is_index.ensures ∙ c.if-not-is_index.false in ( c.of_answer-2.ensures ∙ ap read_outcome a, ( cond-filled (is_index m.answer) m.index.contract o.contract.now _ is (ap (λ (r : IndexReading). r.index.contract) e), ( cond-filled (is_index m.answer) (index_bytes m.index) o.bytes.now _ is (c.index_bytes.ensures ∙ ap (λ (r : IndexReading). index_bytes r.index) e), cond-filled (is_index m.answer) (index_numbers m.index) o.numbers.now _ is (c.index_numbers.ensures ∙ ap (λ (r : IndexReading). index_numbers r.index) e), ), ), ) in record { value = both.0; contract_after = both.1; bytes_after = both.2; numbers_after = both.3 }
+    let is = sym (ap is_index a) ∙ sym c.is_index.ensures ∙ c.if-not-is_index.false in record {
+      value = c.of_answer-2.ensures ∙ ap read_outcome a;
+      contract_after = cond-filled (is_index m.answer) m.index.contract o.contract.now _ is (ap (λ (r : IndexReading). r.index.contract) e);
+      bytes_after = cond-filled (is_index m.answer) (index_bytes m.index) o.bytes.now _ is (c.index_bytes.ensures ∙ ap (λ (r : IndexReading). index_bytes r.index) e);
+      numbers_after = cond-filled (is_index m.answer) (index_numbers m.index) o.numbers.now _ is (c.index_numbers.ensures ∙ ap (λ (r : IndexReading). index_numbers r.index) e);
+    }

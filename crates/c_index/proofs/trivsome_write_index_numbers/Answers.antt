@@ -9,4 +9,7 @@ pub returns : goal.returns
 returns c =
     let w = c.write.ensures in
     let q = c.index_of-index.ensures in
-    let buf = c.args.buf.now in record { value = c.of_written.ensures ∙ ap write_outcome w.0 ∙ ap (λ (m : Index). index_outcome m buf) q; buf_after = w.1 ∙ ap (λ (m : Index). index_written m buf) q }
+    let buf = c.args.buf.now in record {
+      value = c.of_written.ensures ∙ ap write_outcome w.0 ∙ ap (λ (m : Index). index_outcome m buf) q;
+      buf_after = w.1 ∙ ap (λ (m : Index). index_written m buf) q;
+    }
