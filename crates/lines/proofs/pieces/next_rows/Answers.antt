@@ -13,7 +13,7 @@ stretch_at-s-requires c = tt
 pub returns-then-n-eq0 : goal.returns-then-n-eq0
 returns-then-n-eq0 c =
     let met : let a = c.args in Met (line_on a.exchange) a.closed a.line.now c.loop-at.at c.stretch_at-s.result = record { left_over = c.loop-at-test.true; is = c.stretch_at-s.ensures } in
-    let l = c.loop-at in met-stops met c.if-n-eq0.true l.auto ∙ l.invariant
+    let l = c.loop-at in met-stops met c.if-n-eq0.true l.kept ∙ l.invariant
 
 pub overflow_add-at : goal.overflow_add-at
 overflow_add-at c =
@@ -32,31 +32,31 @@ pub loop-at-preserved : goal.loop-at-preserved
 loop-at-preserved c =
     let met : let a = c.args in Met (line_on a.exchange) a.closed a.line.now c.loop-at.at c.stretch_at-s.result = record { left_over = c.loop-at-test.true; is = c.stretch_at-s.ensures } in
     let l = c.loop-at in
-    goes_on met l.auto c.if-n-eq0.false c.told.result c.told.ensures c.in-Nothing.later c.in-Nothing.is
+    goes_on met l.kept c.if-n-eq0.false c.told.result c.told.ensures c.in-Nothing.later c.in-Nothing.is
     ∙ l.invariant
 
 pub returns-in-One : goal.returns-in-One
 returns-in-One c =
     let met : let a = c.args in Met (line_on a.exchange) a.closed a.line.now c.loop-at.at c.stretch_at-s.result = record { left_over = c.loop-at-test.true; is = c.stretch_at-s.ensures } in
     let l = c.loop-at in
-    gives_one met l.auto c.if-n-eq0.false c.told.result c.told.ensures c.in-One.row c.in-One.later c.in-One.is
+    gives_one met l.kept c.if-n-eq0.false c.told.result c.told.ensures c.in-One.row c.in-One.later c.in-One.is
     ∙ l.invariant
 
 pub returns-in-Two : goal.returns-in-Two
 returns-in-Two c =
     let met : let a = c.args in Met (line_on a.exchange) a.closed a.line.now c.loop-at.at c.stretch_at-s.result = record { left_over = c.loop-at-test.true; is = c.stretch_at-s.ensures } in
     let l = c.loop-at in
-    gives-two met l.auto c.if-n-eq0.false c.told.result c.told.ensures c.in-Two.skipped c.in-Two.row c.in-Two.later c.in-Two.is
+    gives-two met l.kept c.if-n-eq0.false c.told.result c.told.ensures c.in-Two.skipped c.in-Two.row c.in-Two.later c.in-Two.is
     ∙ l.invariant
 
 pub returns-in-Full : goal.returns-in-Full
 returns-in-Full c =
     let met : let a = c.args in Met (line_on a.exchange) a.closed a.line.now c.loop-at.at c.stretch_at-s.result = record { left_over = c.loop-at-test.true; is = c.stretch_at-s.ensures } in
     let l = c.loop-at in
-    gives-full met l.auto c.if-n-eq0.false c.told.result c.told.ensures c.in-Full.is
+    gives-full met l.kept c.if-n-eq0.false c.told.result c.told.ensures c.in-Full.is
     ∙ l.invariant
 
 pub returns : goal.returns
 returns c =
     let a = c.args in
-    gives-no-more (line_on a.exchange) a.closed a.line.now c.loop-at.auto c.loop-at.at c.loop-at-test.false ∙ c.loop-at.invariant
+    gives-no-more (line_on a.exchange) a.closed a.line.now c.loop-at.kept c.loop-at.at c.loop-at-test.false ∙ c.loop-at.invariant
