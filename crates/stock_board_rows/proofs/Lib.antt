@@ -2,8 +2,6 @@
 pub mod CodeLaws
 pub mod SearchLaws
 pub mod ChangeLaws
-pub mod WalkSteps
-pub mod RowKit
-pub mod SearchSteps
+pub mod TurnLaws
 pub mod ClearLaws
 pub mod Determined
