@@ -41,8 +41,7 @@ fn run_outcome(run: RunAt) -> u64
 }
 
 // The fresh ledger, for a new day.
-#[unsafe(no_mangle)]
-pub extern "C" fn trivsome_clear(ends: &mut [u32; 129], floor: &mut u32, given: &mut u32)
+pub fn trivsome_clear(ends: &mut [u32; 129], floor: &mut u32, given: &mut u32)
     ensures { ledger_of ends.new floor.new given.new ≡ fresh }
 {
     *ends = [0; 129];
@@ -51,8 +50,7 @@ pub extern "C" fn trivsome_clear(ends: &mut [u32; 129], floor: &mut u32, given: 
 }
 
 // The arrival of a number: new, repeat, 20, 21, 22 or 25.
-#[unsafe(no_mangle)]
-pub extern "C" fn trivsome_arrive(ends: &mut [u32; 129], floor: u32, given: u32, n: u32) -> u64
+pub fn trivsome_arrive(ends: &mut [u32; 129], floor: u32, given: u32, n: u32) -> u64
     ensures value { result ≡ arrival_outcome (arrived_of (ledger_of ends.old floor given) n).answer }
     ensures ends_after { ends.new ≡ (arrived_of (ledger_of ends.old floor given) n).ledger.ends }
 {
@@ -60,8 +58,7 @@ pub extern "C" fn trivsome_arrive(ends: &mut [u32; 129], floor: u32, given: u32,
 }
 
 // Gives the lowest missing run up: its first and its last number, 20 or 24.
-#[unsafe(no_mangle)]
-pub extern "C" fn trivsome_give_up(ends: &mut [u32; 129], floor: &mut u32, given: &mut u32) -> u64
+pub fn trivsome_give_up(ends: &mut [u32; 129], floor: &mut u32, given: &mut u32) -> u64
     ensures value { result ≡ run_outcome (gave_up_of (ledger_of ends.old floor.old given.old)).answer }
     ensures given_after { ledger_of ends.new floor.new given.new
         ≡ (gave_up_of (ledger_of ends.old floor.old given.old)).ledger }
@@ -70,8 +67,7 @@ pub extern "C" fn trivsome_give_up(ends: &mut [u32; 129], floor: &mut u32, given
 }
 
 // The highest number recorded.
-#[unsafe(no_mangle)]
-pub extern "C" fn trivsome_highest(ends: &[u32; 129], floor: u32, given: u32) -> u64
+pub fn trivsome_highest(ends: &[u32; 129], floor: u32, given: u32) -> u64
     ensures { result ≡ figure_outcome (highest_of (ledger_of ends.now floor given)) }
 {
     let ends = *ends;
@@ -80,8 +76,7 @@ pub extern "C" fn trivsome_highest(ends: &[u32; 129], floor: u32, given: u32) ->
 }
 
 // How many numbers are recorded.
-#[unsafe(no_mangle)]
-pub extern "C" fn trivsome_heard(ends: &[u32; 129], floor: u32, given: u32) -> u64
+pub fn trivsome_heard(ends: &[u32; 129], floor: u32, given: u32) -> u64
     ensures { result ≡ figure_outcome (heard_of (ledger_of ends.now floor given)) }
 {
     let ends = *ends;
@@ -90,8 +85,7 @@ pub extern "C" fn trivsome_heard(ends: &[u32; 129], floor: u32, given: u32) -> u
 }
 
 // How many numbers below the highest are neither recorded nor given up.
-#[unsafe(no_mangle)]
-pub extern "C" fn trivsome_missing(ends: &[u32; 129], floor: u32, given: u32) -> u64
+pub fn trivsome_missing(ends: &[u32; 129], floor: u32, given: u32) -> u64
     ensures { result ≡ figure_outcome (missing_of (ledger_of ends.now floor given)) }
 {
     let ends = *ends;
@@ -100,8 +94,7 @@ pub extern "C" fn trivsome_missing(ends: &[u32; 129], floor: u32, given: u32) ->
 }
 
 // The last number of the run that was given up last, or 0.
-#[unsafe(no_mangle)]
-pub extern "C" fn trivsome_floor(ends: &[u32; 129], floor: u32, given: u32) -> u64
+pub fn trivsome_floor(ends: &[u32; 129], floor: u32, given: u32) -> u64
     ensures { result ≡ figure_outcome (floor_of (ledger_of ends.now floor given)) }
 {
     let ends = *ends;
@@ -110,8 +103,7 @@ pub extern "C" fn trivsome_floor(ends: &[u32; 129], floor: u32, given: u32) -> u
 }
 
 // How many numbers were given up.
-#[unsafe(no_mangle)]
-pub extern "C" fn trivsome_given_up(ends: &[u32; 129], floor: u32, given: u32) -> u64
+pub fn trivsome_given_up(ends: &[u32; 129], floor: u32, given: u32) -> u64
     ensures { result ≡ figure_outcome (given_up_of (ledger_of ends.now floor given)) }
 {
     let ends = *ends;
@@ -120,8 +112,7 @@ pub extern "C" fn trivsome_given_up(ends: &[u32; 129], floor: u32, given: u32) -
 }
 
 // How many unbroken runs are missing.
-#[unsafe(no_mangle)]
-pub extern "C" fn trivsome_runs(ends: &[u32; 129], floor: u32, given: u32) -> u64
+pub fn trivsome_runs(ends: &[u32; 129], floor: u32, given: u32) -> u64
     ensures { result ≡ figure_outcome (runs_of (ledger_of ends.now floor given)) }
 {
     let ends = *ends;
@@ -130,8 +121,7 @@ pub extern "C" fn trivsome_runs(ends: &[u32; 129], floor: u32, given: u32) -> u6
 }
 
 // The missing run at a place, the lowest at 0: its first and its last number, 20 or 23.
-#[unsafe(no_mangle)]
-pub extern "C" fn trivsome_run(ends: &[u32; 129], floor: u32, given: u32, place: u32) -> u64
+pub fn trivsome_run(ends: &[u32; 129], floor: u32, given: u32, place: u32) -> u64
     ensures { result ≡ run_outcome (run_of (ledger_of ends.now floor given) place) }
 {
     let ends = *ends;
