@@ -1,5 +1,7 @@
 // A capture of 128 blocks in lent memory, kept so that a power loss during an append costs no finished block, and half of one is never
 // read: it is cleared, judged and read. It knows nothing of what the payloads are.
+#![tactic(auto)]
+
 mod blocks;
 pub mod reading;
 mod searches;
@@ -14,7 +16,7 @@ pub const MOST: usize = 504;
 pub const SIZE: usize = 65536;
 
 // What clearing answers.
-#[derive(Drop)]
+#[derive(Clone, Copy)]
 pub enum Cleared {
     // 0
     Done,
@@ -23,7 +25,7 @@ pub enum Cleared {
 }
 
 // How many blocks are finished.
-#[derive(Drop)]
+#[derive(Clone, Copy)]
 pub enum Held {
     Blocks(usize),
     // 34
@@ -33,7 +35,7 @@ pub enum Held {
 }
 
 // A payload, as a part of the capture.
-#[derive(Drop)]
+#[derive(Clone, Copy)]
 pub enum Part {
     // where it begins, and how many bytes it has
     Bytes(usize, usize),

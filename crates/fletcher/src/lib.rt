@@ -1,9 +1,11 @@
 // Fletcher-16 of bytes. The sums are reduced once for many bytes: until then they only grow.
+#![tactic(auto)]
+
 ghost use Rattle.std.specs.Prelude.{◌≡◌, ◌+◌, ◌*◌, ◌%◌, ◌≤◌, min, length};
 ghost use Rattle.fletcher.specs.Fletcher.{sums_of, with_bytes, fletcher, between};
 
 // Both sums, each from 0 to 254.
-#[derive(Drop)]
+#[derive(Clone, Copy)]
 pub struct Sums {
     pub first: u8,
     pub second: u8,

@@ -1,4 +1,6 @@
 // Looking over what a record holds: its ends, lent as a list of any length, and the floor beside them.
+#![tactic(auto)]
+
 ghost use Rattle.std.specs.Prelude.{◌≡◌, cond, ◌-◌, ◌≤◌, leb, length, drop};
 ghost use Rattle.ledger.specs.Ends.{places, ends_from, settled_in, missing_in, floor_fits};
 ghost use Rattle.ledger_ends.specs.Looking.{Reach, InOrder, found_in, seen_of};
@@ -12,7 +14,7 @@ pub const FEW: usize = 17;
 pub const SOME: usize = 65;
 
 // What a look over a record finds.
-#[derive(Drop)]
+#[derive(Clone, Copy)]
 pub struct Seen {
     // a series of arrivals and give-ups leaves such a record: each end lies below the one before it, behind the last stand
     // zeros, and the floor fits

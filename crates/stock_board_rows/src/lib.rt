@@ -1,4 +1,6 @@
 // The board of last quotes as a lent slice of 256 rows: calls that find and change one row, ask for one, and clear them all.
+#![tactic(auto)]
+
 ghost use Rattle.std.specs.Prelude.{◌≡◌, ◌<◌};
 ghost use Rattle.stock_board.specs.Board.{same_code, last_of_day, unchanged, change_by, change_of, changed, stock_code, asked_of, clear_answer, cleared};
 ghost use Rattle.stock_board_rows.specs.Steps.{started, free_met, looked, not_asked, answered, clearing_of};
@@ -15,7 +17,7 @@ const ROWS: usize = 256;
 const LAST_TIME: u64 = 999_999_999_999;
 
 // A search for a stock's row, from the first row on. It ends at the row with the code, or behind the last one.
-#[derive(Drop)]
+#[derive(Clone, Copy)]
 struct Search {
     // the row to look at next, and where the search ends
     at: usize,

@@ -1,4 +1,6 @@
 // Format six, live quotes: the message, what its reveal byte shows, and the rules that reading and writing share.
+#![tactic(auto)]
+
 ghost use Rattle.std.specs.Prelude.{◌≡◌, ◌+◌, ◌*◌};
 ghost use Rattle.stock_quotes.specs.Reveal.{levels_of, levels_bit, revealed, levels_right};
 ghost use Rattle.stock_quotes.specs.Quotes.{body_length, quote_timed, no_pair, no_quote};
@@ -7,14 +9,14 @@ use amounts::{Pair, Price, Quantity};
 use answers::Answer;
 
 // What a frame says of the levels of both sides: that they are those which it lists, none too; or nothing, only the trade is sent.
-#[derive(Drop)]
+#[derive(Clone, Copy)]
 pub enum Levels {
     Shown,
     NotShown,
 }
 
 // A stock's quote. Its own reveal byte says which of the trade, the bids and the asks are used; the others are zero.
-#[derive(Drop)]
+#[derive(Clone, Copy)]
 pub struct Quote {
     pub seq: u32,
     pub code: [u8; 6],
@@ -33,14 +35,14 @@ pub struct Quote {
 }
 
 // What reading a body finds; the quote is the empty one where the answer is a refusal.
-#[derive(Drop)]
+#[derive(Clone, Copy)]
 pub struct QuoteReading {
     pub answer: Answer,
     pub quote: Quote,
 }
 
 // What a reveal byte shows: how many trades, 0 or 1, how many levels of each side, and whether levels are shown at all.
-#[derive(Drop)]
+#[derive(Clone, Copy)]
 pub struct Reveal {
     pub trades: usize,
     pub bids: usize,
