@@ -8,6 +8,6 @@ use Rattle.ledger_figures.proofs.highest.Goals as goal
 
 pub returns : goal.returns
 returns c =
-    let l = c.args.t1 in
+    let l = c.args.ledger in
     let whole : length l.ends ≡ places = search rules in
     seen-figure l c.look.result whole c.look.ensures (highest_in l.ends) (highest_in l.ends) c.figure.result c.figure.ensures refl

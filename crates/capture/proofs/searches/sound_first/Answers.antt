@@ -16,14 +16,14 @@ is_formed-requires c = slice-long c.args.capture.now c.loop-n.n (omega arith) (o
 pub returns-then-not-is_formed : goal.returns-then-not-is_formed
 returns-then-not-is_formed c =
     let l = c.loop-n in
-    (at-unformed c.args.capture.now l.n (omega arith) c.is_formed.result c.is_formed.ensures (not-true c.is_formed.result c.if-not-is_formed.true) ∙ l.invariant.1, search rules)
+    (at-unformed c.args.capture.now l.n (omega arith) c.is_formed.result c.is_formed.ensures c.if-not-is_formed.true ∙ l.invariant.1, search rules)
 
 pub returns-then-not-check_fits : goal.returns-then-not-check_fits
 returns-then-not-check_fits c =
     let l = c.loop-n in
     (
-      at-unsound c.args.capture.now l.n (omega arith) c.is_formed.result c.is_formed.ensures c.check_fits.result c.check_fits.ensures (not-false c.is_formed.result c.if-not-is_formed.false)
-          (not-true c.check_fits.result c.if-not-check_fits.true) ∙ l.invariant.1,
+      at-unsound c.args.capture.now l.n (omega arith) c.is_formed.result c.is_formed.ensures c.check_fits.result c.check_fits.ensures c.if-not-is_formed.false
+          c.if-not-check_fits.true ∙ l.invariant.1,
       search rules,
     )
 
@@ -33,7 +33,7 @@ loop-n-preserved c =
     (
       search rules,
       past-sound c.args.capture.now l.n (omega arith) c.is_formed.result c.is_formed.ensures c.check_fits.result c.check_fits.ensures
-          (not-false c.is_formed.result c.if-not-is_formed.false) (not-false c.check_fits.result c.if-not-check_fits.false) ∙ l.invariant.1,
+          c.if-not-is_formed.false c.if-not-check_fits.false ∙ l.invariant.1,
     )
 
 pub returns : goal.returns

@@ -10,5 +10,4 @@ open-requires c = room-for-two c.args.at c.args.before c.args.last c.args.ends.n
 
 pub returns : goal.returns
 returns c =
-    let opened = c.«open» in
-    let both = taken-opens c.args.at c.args.before c.args.last c.args.ends.now c.requires c.if-ends-ne0.false opened.new.0 opened.ensures in record { value = both.0; ends_after = both.1 }
+    let both = taken-opens c.args.at c.args.before c.args.last c.args.ends.now c.requires c.if-ends-ne0.false c.«open».new.ends c.«open».ensures in record { value = both.0; ends_after = both.1 }
