@@ -33,7 +33,7 @@ pub returns-else-n-ge-PLACES : goal.returns-else-n-ge-PLACES
 returns-else-n-ge-PLACES c =
     let a = c.args in
     let at = taken_at a.capture.now a.payload.now a.stores (omega arith) (λ e. omega (arith, e)) (omega arith) c.in-Blocks.n (sym c.in-Blocks.is ∙ c.finished.ensures) (omega arith) in
-    record { value = at.0; capture_after = c.store_some.ensures ∙ ap (λ (l : List ℕ). stored_from a.capture.now (512 * c.in-Blocks.n) l (min a.stores stores)) c.Block-of.ensures ∙ at.1 }
+    record { value = at.0; capture_after = c.store_some.ensures ∙ ap (λ (l : List ℕ). stored_from a.capture.now (512 * c.in-Blocks.n) l (min a.stores stores)) c.block_of-block.ensures ∙ at.1 }
 
 pub returns-in-Refused : goal.returns-in-Refused
 returns-in-Refused c =

@@ -14,19 +14,19 @@ pub returns-then-not-pair_right : goal.returns-then-not-pair_right
 returns-then-not-pair_right c =
     let a = c.args in
     let l = c.loop-i in
-    let n : length a.t1 ≡ 5 = search rules in
-    sym (part-fails a.count a.t1 l.i (omega arith) (sym c.pair_right.ensures ∙ c.if-not-pair_right.true)) ∙ l.invariant
+    let n : length a.pairs ≡ 5 = search rules in
+    sym (part-fails a.count a.pairs l.i (omega arith) (sym c.pair_right.ensures ∙ c.if-not-pair_right.true)) ∙ l.invariant
 
 pub loop-i-preserved : goal.loop-i-preserved
 loop-i-preserved c =
     let a = c.args in
     let l = c.loop-i in
-    let n : length a.t1 ≡ 5 = search rules in
-    sym (part-passes a.count a.t1 l.i (omega arith) (sym c.pair_right.ensures ∙ c.if-not-pair_right.false)) ∙ l.invariant
+    let n : length a.pairs ≡ 5 = search rules in
+    sym (part-passes a.count a.pairs l.i (omega arith) (sym c.pair_right.ensures ∙ c.if-not-pair_right.false)) ∙ l.invariant
 
 pub returns : goal.returns
 returns c =
     let a = c.args in
     let l = c.loop-i in
-    let n : length a.t1 ≡ 5 = search rules in
-    sym (part-ends a.count a.t1 l.i (omega arith)) ∙ l.invariant
+    let n : length a.pairs ≡ 5 = search rules in
+    sym (part-ends a.count a.pairs l.i (omega arith)) ∙ l.invariant

@@ -10,7 +10,7 @@ use Rattle.derivatives_frame.specs.Outline.{header}
 use Rattle.derivatives_frame.proofs.HeadSteps.{bad-block, bad-high, bad-low, all-good, head-is}
 use Rattle.derivatives_frame.proofs.OutlineSteps.{own-return, own-feed, own-check, own-head, own-whole}
 use Rattle.derivatives_frame.proofs.outline.own_outline.Goals as goal
-use Rattle.derivatives_frame.proofs.outline.own_outline.Goals.{else-low-le9, else-high-le9, else-h}
+use Rattle.derivatives_frame.proofs.outline.own_outline.Goals.{then-h+then-high-le9+else-low-le9, then-h+else-high-le9, else-h}
 
 pub returns-then-f-n-ne13 : goal.returns-then-f-n-ne13
 returns-then-f-n-ne13 c = own-return c.args.f.now c.if-f-n-ne13.true
@@ -34,8 +34,8 @@ pub returns : goal.returns
 returns c =
     let long : 12 ≤ length c.args.f.now = omega (arith, c.requires.0) in
     let bad-head : head_good header c.args.f.now ≡ false = elim c.if-h.branch [
-      else-low-le9 w ↦ bad-low c.args.f.now long c.eight_at-h.result c.eight_at-h.ensures w.if-low-le9.false
-    | else-high-le9 w ↦ bad-high c.args.f.now long c.eight_at-h.result c.eight_at-h.ensures w.if-high-le9.false
+      then-h+then-high-le9+else-low-le9 w ↦ bad-low c.args.f.now long c.eight_at-h.result c.eight_at-h.ensures w.if-low-le9.false
+    | then-h+else-high-le9 w ↦ bad-high c.args.f.now long c.eight_at-h.result c.eight_at-h.ensures w.if-high-le9.false
     | else-h w ↦ bad-block c.args.f.now long c.eight_at-h.result c.eight_at-h.ensures w.if-h.false
     ] in
     own-head c.args.f.now c.if-f-n-ne13.false c.if-f-n-ne10.false c.xor_of-x.result c.xor_of-x.ensures c.if-f-n.false

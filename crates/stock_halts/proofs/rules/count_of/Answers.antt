@@ -19,7 +19,7 @@ pub loop-i-preserved : goal.loop-i-preserved
 loop-i-preserved c =
     let a = c.args in
     let l = c.loop-i in
-    (omega arith, l.invariant.1, omega (arith, ten-next l.i), count-turns l.v a.t1 l.i l.invariant.3 (omega arith) c.digit.result c.digit.ensures.0)
+    (omega arith, l.invariant.1, omega (arith, ten-next l.i), count-turns l.v a.code l.i l.invariant.3 (omega arith) c.digit.result c.digit.ensures.0)
 
 pub returns : goal.returns
 returns c =

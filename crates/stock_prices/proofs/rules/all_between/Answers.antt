@@ -19,15 +19,15 @@ pub returns-then-b-low : goal.returns-then-b-low
 returns-then-b-low c =
     let a = c.args in
     let l = c.loop-i in
-    (every-fails (between a.low a.high) a.t1 l.i (omega arith) l.invariant.2
-    (ap (λ (t : Bool). t && leb (get_or a.t1 l.i 0) a.high) (lt-leb a.low (get_or a.t1 l.i 0) c.if-b-low.true)))
+    (every-fails (between a.low a.high) a.code l.i (omega arith) l.invariant.2
+    (ap (λ (t : Bool). t && leb (get_or a.code l.i 0) a.high) (lt-leb a.low (get_or a.code l.i 0) c.if-b-low.true)))
 
 pub returns-then-b-high : goal.returns-then-b-high
 returns-then-b-high c =
     let a = c.args in
     let l = c.loop-i in
-    (every-fails (between a.low a.high) a.t1 l.i (omega arith) l.invariant.2
-    (ap₂ ◌&&◌ (le-leb a.low (get_or a.t1 l.i 0) c.if-b-low.false) (lt-leb (get_or a.t1 l.i 0) a.high c.if-b-high.true)))
+    (every-fails (between a.low a.high) a.code l.i (omega arith) l.invariant.2
+    (ap₂ ◌&&◌ (le-leb a.low (get_or a.code l.i 0) c.if-b-low.false) (lt-leb (get_or a.code l.i 0) a.high c.if-b-high.true)))
 
 pub loop-i-preserved : goal.loop-i-preserved
 loop-i-preserved c =
@@ -35,12 +35,12 @@ loop-i-preserved c =
     let l = c.loop-i in (
       omega arith,
       l.invariant.1,
-      every-goes-on (between a.low a.high) a.t1 l.i (omega arith) l.invariant.2
-          (and_both (le-leb a.low (get_or a.t1 l.i 0) c.if-b-low.false) (le-leb (get_or a.t1 l.i 0) a.high c.if-b-high.false)),
+      every-goes-on (between a.low a.high) a.code l.i (omega arith) l.invariant.2
+          (and_both (le-leb a.low (get_or a.code l.i 0) c.if-b-low.false) (le-leb (get_or a.code l.i 0) a.high c.if-b-high.false)),
     )
 
 pub returns : goal.returns
 returns c =
     let a = c.args in
     let l = c.loop-i in
-    every-ends (between a.low a.high) a.t1 l.i (omega arith) l.invariant.2
+    every-ends (between a.low a.high) a.code l.i (omega arith) l.invariant.2

@@ -16,16 +16,16 @@ pub returns-then-amounts-i-gt0 : goal.returns-then-amounts-i-gt0
 returns-then-amounts-i-gt0 c =
     let a = c.args in
     let l = c.loop-i in
-    (every-fails (eqb 0) a.t1 l.i (omega arith) l.invariant.2 (ne_eqb 0 (get_or a.t1 l.i 0) (λ e. omega arith)))
+    (every-fails (eqb 0) a.amounts l.i (omega arith) l.invariant.2 (ne_eqb 0 (get_or a.amounts l.i 0) (λ e. omega arith)))
 
 pub loop-i-preserved : goal.loop-i-preserved
 loop-i-preserved c =
     let a = c.args in
     let l = c.loop-i in
-    (omega arith, l.invariant.1, every-goes-on (eqb 0) a.t1 l.i (omega arith) l.invariant.2 (eq-eqb 0 (get_or a.t1 l.i 0) (omega arith)))
+    (omega arith, l.invariant.1, every-goes-on (eqb 0) a.amounts l.i (omega arith) l.invariant.2 (eq-eqb 0 (get_or a.amounts l.i 0) (omega arith)))
 
 pub returns : goal.returns
 returns c =
     let a = c.args in
     let l = c.loop-i in
-    every-ends (eqb 0) a.t1 l.i (omega arith) l.invariant.2
+    every-ends (eqb 0) a.amounts l.i (omega arith) l.invariant.2
