@@ -36,9 +36,15 @@ cargo_run() {
     cargo run --quiet --release --offline --manifest-path "$folder/Cargo.toml" --bin "$program" -- "$@"
 }
 
+# whether each .rt and .antt file of the crates stands as rt fmt lays it out
+laid_out() {
+    kit=$(dirname "$(dirname "$(readlink -f "$(command -v rt)")")")
+    find crates -path 'crates/*/out' -prune -o \( -name '*.rt' -o -name '*.antt' \) -print0 | xargs -0 "$kit/bin/rattle" fmt --check
+}
+
 # before anything is proved: each takes a second or less
 quick_tests() {
-    test_that "sources are in the formatter's layout" rt fmt --check
+    test_that "sources are in the formatter's layout" laid_out
     test_that "docs/PROMISES.md says what is there" python3 .ci/promises
     for maker in tests/*/make.py; do
         [ -f "$maker" ] || continue
@@ -48,7 +54,6 @@ quick_tests() {
 
 # once all is proved: the programs and the library as their users do, and the second program
 user_tests() {
-    export TRIVSOME_EMULATED=yes # rt has just made the programs
     programs="crates/line_feed/|crates/lines/|crates/stock_texts/|$(for main in crates/*/src/main.rt; do printf '%s/|' "${main%/src/main.rt}"; done)"
     test_on "${programs}trivsome|native/|include/|examples/|samples/|bindings/rust/Cargo|tests/trivsome/|tests/gaps/|tests/reference/" \
         "trivsome runs, and fails loudly" sh tests/trivsome/try.sh
@@ -61,7 +66,7 @@ user_tests() {
         "the lines of README work" python3 tests/readme/try.py
     test_on "${programs}crates/fletcher/|crates/capture|trivsome|native/|second/|samples/|tests/capture/|tests/reference/" \
         "a capture survives what cuts it off" python3 tests/capture/try.py
-    test_on 'crates/c_|crates/fletcher/|crates/capture|include/|native/|examples/|samples/|tests/library/|tests/reference/' "the library is used from C" sh tests/library/try.sh
+    test_on 'crates/c_|crates/trivsome/|crates/fletcher/|crates/capture|include/|native/|examples/|samples/|tests/library/|tests/reference/' "the library is used from C" sh tests/library/try.sh
     test_on 'second/|compare/|bindings/|bench/|tests/rust/' "the Rust packages are laid out, and clippy has nothing to say" sh tests/rust/try.sh
     test_on 'second/' "the second program passes its own tests" cargo_test second
     test_on 'second/' "the second program and the proved ones agree" cargo_run second compare --seed 1 --frames "$FRAMES"

@@ -35,8 +35,7 @@ def clang():
     rt = shutil.which("rt")
     if not rt:
         return "clang of no known version"
-    kit = pathlib.Path(os.environ.get("RATTLE_HOME") or pathlib.Path(rt).resolve().parents[1])
-    said = told(kit / "on" / platform.machine() / "toolchain" / "bin" / "clang", "--version").split()
+    said = told(pathlib.Path(rt).resolve().parents[1] / "toolchain" / "bin" / "clang", "--version").split()
     return "clang " + said[said.index("version") + 1] if "version" in said else "clang of no known version"
 
 
@@ -51,8 +50,7 @@ def described():
 
 def built(*command):
     """Runs a command that builds code of this machine, and gives the last line that it prints."""
-    own = {name: value for name, value in os.environ.items() if name != "TRIVSOME_EMULATED"}
-    made = subprocess.run([str(word) for word in command], cwd=ROOT, env=own, stdout=subprocess.PIPE, text=True)
+    made = subprocess.run([str(word) for word in command], cwd=ROOT, stdout=subprocess.PIPE, text=True)
     if made.returncode:
         sys.exit(f"bench: could not be built: {' '.join(str(word) for word in command)}")
     return made.stdout.strip().rpartition("\n")[2]

@@ -15,11 +15,18 @@ fn main() {
     println!("cargo:rustc-link-lib=static=trivsome");
 }
 
+/// What the archive is made of. Of a crate's folder that is not its out/, where the Rattle kit keeps what it makes.
+fn sources(root: &Path) -> Vec<PathBuf> {
+    let crates = std::fs::read_dir(root.join("crates")).into_iter().flatten().flatten();
+    let parts = crates.flat_map(|each| ["src", "specs", "proofs"].map(|part| each.path().join(part)));
+    ["crates.txt", "native"].map(|name| root.join(name)).into_iter().chain(parts).filter(|path| path.exists()).collect()
+}
+
 /// The folder of the archive that is built. The script's last line is the archive's path.
 fn built() -> PathBuf {
     let root = Path::new(env!("CARGO_MANIFEST_DIR")).join("../..");
-    for source in ["crates", "crates.txt", "native"] {
-        println!("cargo:rerun-if-changed={}", root.join(source).display());
+    for source in sources(&root) {
+        println!("cargo:rerun-if-changed={}", source.display());
     }
     let script = root.join("native/build");
     let output = Command::new(&script).arg("library").current_dir(&root).stderr(Stdio::inherit()).output();

@@ -173,7 +173,7 @@ def try_calls():
     if calls is None:
         return
     making = [(name, file) for name, file, _, _ in calls[:4]]
-    if making != [("writev", "night.new"), ("fsync", "night.new"), ("rename", "night.new"), ("fsync", ".")]:
+    if making != [("write", "night.new"), ("fsync", "night.new"), ("rename", "night.new"), ("fsync", ".")]:
         faults.differs(f"a new file is made by {making}")
     disk, waiting, finished = bytes(blocks.SIZE), [], []
     for name, file, start, data in calls[4:]:

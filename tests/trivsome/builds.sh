@@ -1,6 +1,6 @@
 #!/bin/sh
-# How programs are built: arguments and status of a program by each way of making it, a source that changes, builds at once, a
-# tree that cannot be written, links, and what is built without the kit.
+# How programs are built: arguments and status of a program with a C compiler at hand and without, a source that changes, what the
+# gate has built, builds at once, a tree that cannot be written, links, another machine, and what is built without the kit.
 set -u
 CDPATH='' cd -- "$(dirname -- "$0")" || exit 2
 part=builds
@@ -8,7 +8,6 @@ part=builds
 . ./common.sh
 # shellcheck source=tests/trivsome/tree.sh
 . tests/trivsome/tree.sh
-unset TRIVSOME_EMULATED # which the gate asks for
 
 # how often rt ran or compiled since count_anew: so_often asks, counts holds it to a number
 count_anew() { true >"$tree/runs" && true >"$tree/compiled"; }
@@ -18,28 +17,29 @@ so_often() { # FILE NUMBER
 counts() { so_often "$@" || differs "$(wc -l <"$tree/$1") lines instead of $2 in $1: $(cat "$tree/$1")"; }
 
 count_anew
-# both ways of making a program where the machine is not x86-64: as its own code, and without cc under the emulator
+# a program takes no C compiler
 # shellcheck disable=SC2031
 for path in "$work/bin" "$PATH"; do
-    rm -rf "$tree/target"
+    rm -rf "$tree/target" "$tree"/crates/*/out
     expect 0 with_kit env PATH="$work/kit/bin:$path" "$tree/trivsome" echo 'a b' '' '*' -x "it's" 8_bytes_ 9_bytes__ \
         >"$work/file" 2>"$work/said" </dev/null
     printf '%s\n' one 'a b' '' '*' -x "it's" 8_bytes_ '?' | cmp - "$work/file" || differs "arguments do not arrive: $(cat "$work/said")"
     expect 1 with_kit "$tree/trivsome" echo fail >"$work/file" 2>"$work/said"
     printf 'one\nfail\n' | cmp - "$work/said" || differs "what a program says on standard error is lost"
-    [ "$path" = "$PATH" ] || cmp "$tree/native/start" "$tree/target/native/echo" || differs "without cc no x86-64 program is made"
+    cmp "$tree/native/start" "$tree/target/native/echo" || differs "the program does not take along what runs it"
     # what is built and up to date needs no kit
     expect 0 without_kit "$tree/trivsome" echo >"$work/file"
     expect 3 without_kit "$tree/trivsome" other >"$work/file" 2>"$work/said"
     says 'there is no command rt' "$work/said"
 done
-# x86-64 code where it is asked for, apart from the machine's own and with nothing to compile
-if [ "$(uname -m)" != x86_64 ]; then
-    expect 0 with_kit env TRIVSOME_EMULATED=yes "$tree/trivsome" echo >"$work/file" 2>"$work/said"
-    echo one | cmp - "$work/file" || differs "x86-64 code that is asked for does not run: $(cat "$work/said")"
-    cmp "$tree/native/start" "$tree/target/native/emulated/echo" || differs "no x86-64 code is made where it is asked for"
-fi
 counts compiled 2
+
+# on a machine for which the kit makes no code that is said, and nothing is proved
+mkdir "$work/other" && printf '#!/bin/sh\necho aarch64\n' >"$work/other/uname" && chmod +x "$work/other/uname"
+count_anew
+expect 3 with_kit env PATH="$work/other:$work/kit/bin:$PATH" "$tree/trivsome" other >"$work/file" 2>"$work/said"
+says 'has nothing for this machine, aarch64' "$work/said"
+counts runs 0
 
 # a link to the script, and a CDPATH at which cd speaks
 ln -s "$tree/trivsome" "$work/link" && ln -s link "$work/second"
@@ -61,6 +61,19 @@ touch "$tree/crates/program_echo/src/main.rt"
 expect 0 with_kit "$tree/trivsome" echo >"$work/file" 2>"$work/said"
 counts runs 1
 counts compiled 0
+
+# what the gate has proved and built is taken as it is, until a source changes
+count_anew
+touch "$tree/target/native/gate"
+rm "$tree/target/native/echo"
+expect 0 with_kit "$tree/trivsome" echo >"$work/file" 2>"$work/said"
+echo one | cmp - "$work/file" || differs "what the gate has built does not run: $(cat "$work/said")"
+[ ! -s "$work/said" ] || differs "it is proved once more behind the gate: $(cat "$work/said")"
+counts runs 0
+sleep 1
+touch "$tree/crates/program_echo/src/main.rt"
+expect 0 with_kit "$tree/trivsome" echo >"$work/file" 2>"$work/said"
+counts runs 1
 
 # a source that changes during the build is built at the next run
 count_anew
@@ -94,7 +107,7 @@ with_kit env SLOW=60 "$tree/trivsome" echo >"$work/file" 2>"$work/said" &
 soon so_often compiled 1
 kill -s KILL "$(cat "$tree/target/native/.lock")"
 for process in /proc/[0-9]*; do
-    [ "$(readlink "$process/cwd")" != "$tree" ] || kill -s KILL "${process#/proc/}"
+    case $(readlink "$process/cwd") in "$tree"/*) kill -s KILL "${process#/proc/}" ;; esac
 done
 wait
 rm -rf "$tree/target/busy"

@@ -76,16 +76,16 @@ wait
 cmp "$work/file" "$(stored listing)/stdout" || differs "a program that runs is disturbed"
 rights_of "$work/plain"
 
-# a program that is not code of this machine's own takes along what runs it
+# the programs take along what runs them
 mkdir -p "$tree/bindings/rust" && cp -R include "$tree/" && cp bindings/rust/Cargo.toml "$tree/bindings/rust/"
 mkdir -p "$tree/target/native" && touch "$tree/target/native/libtrivsome.a"
-(PATH=$work/bin && with_kit "$tree/trivsome" install "$work/emulated") >"$work/file" 2>"$work/said" ||
-    differs "status $? without cc: $(cat "$work/said")"
-rights_of "$work/emulated"
+(PATH=$work/bin && with_kit "$tree/trivsome" install "$work/along") >"$work/file" 2>"$work/said" ||
+    differs "status $? without a C compiler: $(cat "$work/said")"
+rights_of "$work/along"
 mv "$tree" "$work/gone" && rm -r "$work/kit"
-expect 0 without_kit nobody "$work/emulated/bin/trivsome" echo 'a b' >"$work/file" 2>"$work/said"
-printf 'one\na b\n' | cmp - "$work/file" || differs "x86-64 programs are not installed: $(cat "$work/said")"
-expect 1 without_kit nobody "$work/emulated/bin/trivsome" other fail 2>"$work/said"
+expect 0 without_kit nobody "$work/along/bin/trivsome" echo 'a b' >"$work/file" 2>"$work/said"
+printf 'one\na b\n' | cmp - "$work/file" || differs "the programs are not installed: $(cat "$work/said")"
+expect 1 without_kit nobody "$work/along/bin/trivsome" other fail 2>"$work/said"
 
 # what cannot be done fails loudly
 mkdir "$work/not ours" && chmod 555 "$work/not ours"

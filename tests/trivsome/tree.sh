@@ -3,14 +3,14 @@
 # written in C, and its kit is the one at hand but for an rt that compiles C and proves nothing. So everything that stands
 # around a proof is tried in seconds.
 tree="$work/a tree"
-real=${RATTLE_HOME:-$(dirname "$(dirname "$(readlink -f "$(command -v rt)")")")}
+real=$(dirname "$(dirname "$(readlink -f "$(command -v rt)")")")
 
 # with_kit and without_kit COMMAND..: with that kit in place of the one at hand, and with none
-with_kit() { (RATTLE_HOME=$work/kit PATH=$work/kit/bin:$PATH && export RATTLE_HOME PATH && "$@"); }
-without_kit() { (unset RATTLE_HOME && PATH=$work/bin && export PATH && "$@"); }
+with_kit() { (PATH=$work/kit/bin:$PATH && export PATH && "$@"); }
+without_kit() { (PATH=$work/bin && export PATH && "$@"); }
 
 # program NAME WORD: a program that says the word and its arguments, a line each, and ? for one of more than eight bytes; with the
-# argument fail, on standard error. It asks for its arguments as a Rattle program does
+# argument fail, on standard error and with status 1. It asks for its arguments as a Rattle program does
 program() {
     mkdir -p "$tree/crates/program_$1/src"
     cat >"$work/source" <<END
@@ -28,7 +28,7 @@ int main(void) {
     int to = count == 2 && rattle_arg(1, word, 8) == 4 && word[0] == 'f' ? 2 : 1;
     say(to, "$2", sizeof "$2" - 1);
     for (unsigned long i = 1; i < count; i++) say(to, word, rattle_arg(i, word, 8));
-    return rattle_arg(count, word, 8) != -1;
+    return to == 2 || rattle_arg(count, word, 8) != -1;
 }
 END
     mv "$work/source" "$tree/crates/program_$1/src/main.rt"
@@ -37,32 +37,34 @@ END
 mkdir -p "$tree" "$work/kit/bin" "$work/bin"
 ln -s /usr/bin/* /bin/* "$work/bin/" 2>/dev/null # all commands but two
 rm -f "$work/bin/cc" "$work/bin/rt"
-for entry in "$real"/*; do [ "${entry##*/}" = bin ] || ln -s "$entry" "$work/kit/"; done
+for entry in "$real"/* "$real/bin/rattle-link"; do
+    [ "${entry##*/}" = bin ] || ln -s "$entry" "$work/kit/${entry#"$real"/}"
+done
 cp -R trivsome native "$tree/"
 touch "$tree/crates.txt"
 program echo one
 program other two
 
-# rt check CRATE as native/build and trivsome see it. Each run leaves a line in the file runs, one
-# that compiles in compiled, and one beside another in beside.
+# rt run in a crate's folder as native/build sees it. Each run leaves a line in the file runs of the tree's top, one that compiles
+# in compiled, and one beside another in beside.
 cat >"$work/kit/bin/rt" <<'END'
 #!/bin/sh
 set -u
-tools=$RATTLE_HOME/on/$(uname -m)/toolchain crate=$2
-mkdir -p target/obj target/stamp target/bin
-if mkdir target/busy; then trap 'rmdir target/busy' EXIT; else echo "$crate" >>beside; fi
-echo "$crate" >>runs
-cksum <"crates/$crate/src/main.rt" >target/stamp.new
-if ! cmp -s target/stamp.new "target/stamp/$crate"; then
-    words='--target=x86_64-unknown-linux-gnu --no-default-config -O1 -fPIE -c'
-    "$tools/bin/clang" $words -emit-llvm -x c "crates/$crate/src/main.rt" -o "target/$crate.module" || exit 1
-    mv "target/$crate.module" "target/$crate.bc"
-    "$tools/bin/clang" $words -x ir "target/$crate.bc" -o "target/obj/$crate.o" || exit 1
-    "$RATTLE_HOME/on/$(uname -m)/bin/rattle-link" --target x86_64-unknown-linux-gnu --toolchain "$tools" -o "target/bin/$crate" \
-        "target/obj/$crate.o" "$RATTLE_HOME/lib/libos_c.a" || exit 1
-    mv target/stamp.new "target/stamp/$crate"
-    echo "$crate" >>compiled
+[ "$*" = run ] || exit 2
+kit=${0%/bin/rt} crate=${PWD##*/} top=../..
+mkdir -p out
+if mkdir $top/target/busy; then trap 'rmdir $top/target/busy' EXIT; else echo "$crate" >>$top/beside; fi
+echo "$crate" >>$top/runs
+cksum <src/main.rt >out/new
+if ! cmp -s out/new "out/$crate.stamp"; then
+    "$kit/toolchain/bin/clang" --target=x86_64-unknown-linux-gnu --no-default-config -O1 -fPIE -c -x c src/main.rt -o "out/$crate.o" &&
+        "$kit/bin/rattle-link" --target x86_64-unknown-linux-gnu --toolchain "$kit/toolchain" -o "out/$crate" "out/$crate.o" \
+            "$kit/c/libos_c.a" "$kit/c/liblibc_c.a" || exit 1
+    mv out/new "out/$crate.stamp"
+    echo "$crate" >>$top/compiled
     sleep "${SLOW:-0}"
 fi
+echo "rt: running out/$crate; to give it other input, run that file yourself" >&2
+"out/$crate"
 END
 chmod +x "$work/kit/bin/rt"

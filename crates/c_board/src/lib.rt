@@ -44,8 +44,7 @@ fn lend(asked: Asked, bytes: &mut [u8; 9], time: &mut u64, amounts: &mut [u32; 2
 }
 
 // Makes every row free: 0 or 50.
-#[unsafe(no_mangle)]
-pub extern "C" fn trivsome_board_clear(heads: &mut [u64], cells: &mut [u32]) -> u64
+pub fn trivsome_board_clear(heads: &mut [u64], cells: &mut [u32]) -> u64
     ensures value { result ≡ answer_outcome (cleared_answer (flat heads.old cells.old)) }
     ensures cells_after { flat heads.new cells.new ≡ cleared_flat (flat heads.old cells.old) }
 {
@@ -53,8 +52,7 @@ pub extern "C" fn trivsome_board_clear(heads: &mut [u64], cells: &mut [u32]) -> 
 }
 
 // Takes a quote of such numbers: 0, 50, 14 or 52.
-#[unsafe(no_mangle)]
-pub extern "C" fn trivsome_board_take_numbers(
+pub fn trivsome_board_take_numbers(
     heads: &mut [u64],
     cells: &mut [u32],
     seq: u32,
@@ -70,8 +68,7 @@ pub extern "C" fn trivsome_board_take_numbers(
 }
 
 // The row of a code: 0, 50 or 51.
-#[unsafe(no_mangle)]
-pub extern "C" fn trivsome_board_ask_numbers(
+pub fn trivsome_board_ask_numbers(
     heads: &[u64],
     cells: &[u32],
     code: &[u8; 6],
@@ -88,8 +85,7 @@ pub extern "C" fn trivsome_board_ask_numbers(
 }
 
 // The row at a place, the first at 0: 0, 50 or 51.
-#[unsafe(no_mangle)]
-pub extern "C" fn trivsome_board_row_numbers(
+pub fn trivsome_board_row_numbers(
     heads: &[u64],
     cells: &[u32],
     place: usize,
@@ -106,8 +102,7 @@ pub extern "C" fn trivsome_board_row_numbers(
 }
 
 // How many rows are in use: 0 with their number, or 50.
-#[unsafe(no_mangle)]
-pub extern "C" fn trivsome_board_rows(heads: &[u64], cells: &[u32]) -> u64
+pub fn trivsome_board_rows(heads: &[u64], cells: &[u32]) -> u64
     ensures { result ≡ rows_outcome (in_use_flat (flat heads.now cells.now)) }
 {
     let rows = in_use(heads, cells);

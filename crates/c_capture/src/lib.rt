@@ -24,8 +24,7 @@ fn taken_outcome(taken: Taken) -> u64
 }
 
 // Makes a fresh capture: 0 or 34.
-#[unsafe(no_mangle)]
-pub extern "C" fn trivsome_capture_clear(capture: &mut [u8]) -> u64
+pub fn trivsome_capture_clear(capture: &mut [u8]) -> u64
     ensures value { result ≡ cleared_outcome (cleared_of capture.old) }
     ensures capture_after { capture.new ≡ cleared_bytes capture.old }
 {
@@ -37,8 +36,7 @@ pub extern "C" fn trivsome_capture_clear(capture: &mut [u8]) -> u64
 }
 
 // Appends a payload to the first unfinished place: 0 with the place, 34, 31, 33 with the first bad block's place, or 32.
-#[unsafe(no_mangle)]
-pub extern "C" fn trivsome_capture_append(capture: &mut [u8], payload: &[u8]) -> u64
+pub fn trivsome_capture_append(capture: &mut [u8], payload: &[u8]) -> u64
     ensures value { result ≡ taken_outcome (taken_of capture.old payload.now) }
     ensures capture_after { capture.new ≡ taken_bytes capture.old payload.now stores }
 {
@@ -46,12 +44,7 @@ pub extern "C" fn trivsome_capture_append(capture: &mut [u8], payload: &[u8]) ->
 }
 
 // The same append, and the same answer, with the power cut after so many of its stores, or after all if it takes no more.
-#[unsafe(no_mangle)]
-pub extern "C" fn trivsome_capture_append_cut(
-    capture: &mut [u8],
-    payload: &[u8],
-    stores: usize,
-) -> u64
+pub fn trivsome_capture_append_cut(capture: &mut [u8], payload: &[u8], stores: usize) -> u64
     ensures value { result ≡ taken_outcome (taken_of capture.old payload.now) }
     ensures capture_after { capture.new ≡ taken_bytes capture.old payload.now stores }
 {
@@ -59,8 +52,7 @@ pub extern "C" fn trivsome_capture_append_cut(
 }
 
 // How many blocks are finished: 0 with their number, 34, or 33 with the first bad block's place.
-#[unsafe(no_mangle)]
-pub extern "C" fn trivsome_capture_finished(capture: &[u8]) -> u64
+pub fn trivsome_capture_finished(capture: &[u8]) -> u64
     ensures { result ≡ held_outcome (held_of capture.now) }
 {
     let held = finished(capture);
@@ -73,8 +65,7 @@ pub extern "C" fn trivsome_capture_finished(capture: &[u8]) -> u64
 
 // The payload at a place, the first at 1: 0 with its length and where in the capture it begins, 34, or 33 with the first bad block's
 // place.
-#[unsafe(no_mangle)]
-pub extern "C" fn trivsome_capture_payload(capture: &[u8], place: usize) -> u64
+pub fn trivsome_capture_payload(capture: &[u8], place: usize) -> u64
     ensures { result ≡ part_outcome (part_of capture.now place) }
 {
     let part = payload_at(capture, place);

@@ -16,24 +16,21 @@ use lines::moves::move_at;
 use walk::tally::Tally;
 
 // The answer alone, with its figures.
-#[unsafe(no_mangle)]
-pub extern "C" fn trivsome_derivatives_read(line: &[u8], at: usize) -> u64
+pub fn trivsome_derivatives_read(line: &[u8], at: usize) -> u64
     ensures { result ≡ read_outcome (answer_of (drop at line.now)) }
 {
     of_answer(read(line, at))
 }
 
 // The move at a place of a line; the next one is at the place behind its bytes.
-#[unsafe(no_mangle)]
-pub extern "C" fn trivsome_derivatives_move(line: &[u8], at: usize, closed: bool) -> u64
+pub fn trivsome_derivatives_move(line: &[u8], at: usize, closed: bool) -> u64
     ensures { result ≡ move_outcome (move_at closed at line.now) }
 {
     of_step(move_at(Exchange::Derivatives, line, at, closed))
 }
 
 // The tally of accepted, refused, skipped and waiting bytes, moved on by this walk.
-#[unsafe(no_mangle)]
-pub extern "C" fn trivsome_derivatives_walk(tally: &mut [u64; 4], line: &[u8], closed: bool) -> u64
+pub fn trivsome_derivatives_walk(tally: &mut [u64; 4], line: &[u8], closed: bool) -> u64
     ensures value { result ≡ (tallied_of answers (tally_from tally.old) closed line.now).answer }
     ensures tally_after { tally.new ≡ tally_numbers (tallied_of answers (tally_from tally.old) closed line.now).tally }
 {

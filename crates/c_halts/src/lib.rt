@@ -15,8 +15,7 @@ use c_outcomes::{is_of, of_answer, of_written};
 use stock_reading::reading::read_halt;
 
 // The answer, and a halt's code, and its event, number, resume and state.
-#[unsafe(no_mangle)]
-pub extern "C" fn trivsome_read_halt_numbers(
+pub fn trivsome_read_halt_numbers(
     line: &[u8],
     at: usize,
     code: &mut [u8; 6],
@@ -39,8 +38,7 @@ pub extern "C" fn trivsome_read_halt_numbers(
 }
 
 // A halt of such numbers written at the start of a buffer: 0 with the length, 14 or 15; numbers of no event are 14.
-#[unsafe(no_mangle)]
-pub extern "C" fn trivsome_write_halt_numbers(
+pub fn trivsome_write_halt_numbers(
     seq: u32,
     code: &[u8; 6],
     event: &[u32; 4],

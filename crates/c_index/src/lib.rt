@@ -25,8 +25,7 @@ fn is_index(answer: Answer) -> bool
 }
 
 // The answer, and an index value's contract, its market, kind, contract's length and status, and its two times and value.
-#[unsafe(no_mangle)]
-pub extern "C" fn trivsome_read_index_numbers(
+pub fn trivsome_read_index_numbers(
     line: &[u8],
     at: usize,
     contract: &mut [u8; 8],
@@ -52,8 +51,7 @@ pub extern "C" fn trivsome_read_index_numbers(
 }
 
 // An index value of such numbers written at the start of a buffer: 0 with the length, 14 or 15.
-#[unsafe(no_mangle)]
-pub extern "C" fn trivsome_write_index_numbers(
+pub fn trivsome_write_index_numbers(
     seq: u32,
     contract: &[u8; 8],
     bytes: &[u8; 4],

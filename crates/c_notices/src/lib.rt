@@ -14,8 +14,7 @@ use layout::put_bytes;
 use stock_reading::reading::read_notice;
 
 // The answer, and a notice's category and text; the text's length is the frame's without 14.
-#[unsafe(no_mangle)]
-pub extern "C" fn trivsome_read_notice_numbers(
+pub fn trivsome_read_notice_numbers(
     line: &[u8],
     at: usize,
     category: &mut u8,
@@ -40,13 +39,7 @@ pub extern "C" fn trivsome_read_notice_numbers(
 }
 
 // A notice of a number, a category and a text, written at the start of a buffer: 0 with the length, 14 or 15.
-#[unsafe(no_mangle)]
-pub extern "C" fn trivsome_write_notice_numbers(
-    seq: u32,
-    category: u8,
-    text: &[u8],
-    buf: &mut [u8],
-) -> u64
+pub fn trivsome_write_notice_numbers(seq: u32, category: u8, text: &[u8], buf: &mut [u8]) -> u64
     ensures value { result ≡ written_outcome five_codec (notice_from seq category text.now) buf.old }
     ensures buf_after { buf.new ≡ written_bytes five_codec (notice_from seq category text.now) buf.old }
 {

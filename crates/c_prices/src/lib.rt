@@ -17,8 +17,7 @@ use stock_prices::Prices;
 use stock_reading::reading::read_prices;
 
 // The answer, and the count, the codes, the amounts and the times of prices.
-#[unsafe(no_mangle)]
-pub extern "C" fn trivsome_read_prices_numbers(
+pub fn trivsome_read_prices_numbers(
     line: &[u8],
     at: usize,
     count: &mut u8,
@@ -47,8 +46,7 @@ pub extern "C" fn trivsome_read_prices_numbers(
 }
 
 // Prices of such numbers written at the start of a buffer: 0 with the length, 14 or 15.
-#[unsafe(no_mangle)]
-pub extern "C" fn trivsome_write_prices_numbers(
+pub fn trivsome_write_prices_numbers(
     seq: u32,
     count: u8,
     codes: &[u8; 60],

@@ -14,8 +14,7 @@ use stock_quotes_numbers::{quote_amounts, quote_bytes, quote_of};
 use stock_reading::reading::read_quote;
 
 // The answer, and a quote's bytes, time and amounts.
-#[unsafe(no_mangle)]
-pub extern "C" fn trivsome_read_quote_numbers(
+pub fn trivsome_read_quote_numbers(
     line: &[u8],
     at: usize,
     bytes: &mut [u8; 9],
@@ -40,8 +39,7 @@ pub extern "C" fn trivsome_read_quote_numbers(
 }
 
 // A quote of such numbers written at the start of a buffer: 0 with the length, 14 or 15.
-#[unsafe(no_mangle)]
-pub extern "C" fn trivsome_write_quote_numbers(
+pub fn trivsome_write_quote_numbers(
     seq: u32,
     bytes: &[u8; 9],
     time: u64,

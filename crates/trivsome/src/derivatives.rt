@@ -1,0 +1,32 @@
+// Calls for C and Rust: the answer at a place of a line of the derivatives exchange, and such a line walked.
+ghost use Rattle.std.specs.Prelude.{◌≡◌, drop};
+ghost use Rattle.derivatives_reading.specs.Reading.{answer_of};
+ghost use Rattle.c_outcomes.specs.Outcomes.{read_outcome};
+ghost use Rattle.c_outcomes.specs.Walking.{move_outcome, tally_from, tally_numbers};
+ghost use Rattle.walk.specs.Tally.{tallied_of};
+ghost use Rattle.derivatives_lines.specs.Lines.{answers, move_at};
+
+// The answer alone, with its figures.
+#[unsafe(no_mangle)]
+pub extern "C" fn trivsome_derivatives_read(line: &[u8], at: usize) -> u64
+    ensures { result ≡ read_outcome (answer_of (drop at line.now)) }
+{
+    c_derivatives::trivsome_derivatives_read(line, at)
+}
+
+// The move at a place of a line; the next one is at the place behind its bytes.
+#[unsafe(no_mangle)]
+pub extern "C" fn trivsome_derivatives_move(line: &[u8], at: usize, closed: bool) -> u64
+    ensures { result ≡ move_outcome (move_at closed at line.now) }
+{
+    c_derivatives::trivsome_derivatives_move(line, at, closed)
+}
+
+// The tally of accepted, refused, skipped and waiting bytes, moved on by this walk.
+#[unsafe(no_mangle)]
+pub extern "C" fn trivsome_derivatives_walk(tally: &mut [u64; 4], line: &[u8], closed: bool) -> u64
+    ensures value { result ≡ (tallied_of answers (tally_from tally.old) closed line.now).answer }
+    ensures tally_after { tally.new ≡ tally_numbers (tallied_of answers (tally_from tally.old) closed line.now).tally }
+{
+    c_derivatives::trivsome_derivatives_walk(tally, line, closed)
+}

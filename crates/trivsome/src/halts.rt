@@ -1,0 +1,35 @@
+// Calls for C and Rust: halts read and written. A code, and an event as four numbers.
+ghost use Rattle.std.specs.Prelude.{◌≡◌, drop};
+ghost use Rattle.stock_reading.specs.Reading.{halt_at};
+ghost use Rattle.c_outcomes.specs.Outcomes.{read_outcome};
+ghost use Rattle.c_outcomes.specs.Lent.{lent};
+ghost use Rattle.c_halts.specs.Halts.{halt_numbers, halt_from, halt_outcome, halt_bytes};
+
+// The answer, and a halt's code, and its event, number, resume and state.
+#[unsafe(no_mangle)]
+pub extern "C" fn trivsome_read_halt_numbers(
+    line: &[u8],
+    at: usize,
+    code: &mut [u8; 6],
+    event: &mut [u32; 4],
+) -> u64
+    ensures value { result ≡ read_outcome (halt_at (drop at line.now)).answer }
+    ensures code_after { code.new ≡ lent 19 (halt_at (drop at line.now)).answer (halt_at (drop at line.now)).halt.code code.old }
+    ensures event_after { event.new ≡ lent 19 (halt_at (drop at line.now)).answer (halt_numbers (halt_at (drop at line.now)).halt) event.old }
+{
+    c_halts::trivsome_read_halt_numbers(line, at, code, event)
+}
+
+// A halt of such numbers written at the start of a buffer: 0 with the length, 14 or 15; numbers of no event are 14.
+#[unsafe(no_mangle)]
+pub extern "C" fn trivsome_write_halt_numbers(
+    seq: u32,
+    code: &[u8; 6],
+    event: &[u32; 4],
+    buf: &mut [u8],
+) -> u64
+    ensures value { result ≡ halt_outcome event.now (halt_from seq code.now event.now) buf.old }
+    ensures buf_after { buf.new ≡ halt_bytes event.now (halt_from seq code.now event.now) buf.old }
+{
+    c_halts::trivsome_write_halt_numbers(seq, code, event, buf)
+}
