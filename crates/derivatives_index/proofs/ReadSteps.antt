@@ -8,7 +8,7 @@ use lib.ListN.{length, get_or, take, drop, replicate, length-drop}
 use lib.Seq.{take-add, take-take, take_all, drop_at, drop-drop, get_or-drop, get_or-take, length-take-le}
 use lib.Dec.{eqb, ltb}
 use borrow.Author.Tests.{eqb-true, ne_eqb, lt-leb, eq-eqb}
-use Rattle.digits.specs.Packed.{good, value}
+use Rattle.digits.specs.Packed.{value}
 use Rattle.digits.specs.Halves.{looked}
 use Rattle.digits.specs.declared.halves.Place.{Place}
 use Rattle.digits.specs.declared.halves.Place.TheVariants.{None}

@@ -1,23 +1,21 @@
 -- A reading by its steps: the outline, and the body behind its header.
-use Prim.Native.Nat.{ℕ, ◌+◌, ◌-◌, ◌*◌, ◌≤◌}
+use Prim.Native.Nat.{ℕ, ◌+◌, ◌-◌, ◌≤◌}
 use mathlib.Core.Path.{◌≡◌, refl, sym, ap, ap₂, ◌∙◌}
-use mathlib.Core.Bool.{Bool, true, false, cond, ◌&&◌, ◌||◌, and-true}
+use mathlib.Core.Bool.{Bool, true, false, cond, ◌&&◌, and-true}
 use mathlib.Core.List.{List}
 use native.Mathlib.Omega.{arith}
 use lib.ListN.{length, take, drop, length-drop}
 use lib.Dec.{eqb}
 use borrow.Author.Tests.{ne_eqb}
 use Rattle.layout.specs.Cells.{size, good_cells}
-use Rattle.layout.specs.Places.{first_bad}
 use Rattle.layout.specs.Checks.{first_fail}
 use Rattle.layout.proofs.CheckLaws.{only-fails}
-use Rattle.digits.specs.declared.halves.Place.TheVariants.{None}
 use Rattle.answers.specs.Answers.{named}
 use Rattle.answers.specs.declared.Answer.{Answer}
-use Rattle.frame.specs.Header.{start, around, length_of, own, body, front, rear, outline_checks, outline_place, Outlined}
+use Rattle.frame.specs.Header.{around, length_of, own, body, front, rear, outline_checks, Outlined}
 use Rattle.frame.proofs.HeaderLaws.{length-own, length-body, around-length, within-line}
 use Rattle.frame.proofs.OutlineSteps.{body-part}
-use Rattle.exchange.specs.Reading.{Behind, checks_of, frame_at, answer_by}
+use Rattle.exchange.specs.Reading.{Behind, answer_by}
 use Rattle.exchange.proofs.ReadingLaws.{checks-outlined, checks-not, answer-not, answer-outlined}
 use Rattle.derivatives_frame.specs.Outline.{header, market, kind, sent, sequence, version, head_of, outline_of}
 use Rattle.derivatives_frame.specs.declared.head.Head.{Head}

@@ -1,6 +1,6 @@
 -- Laws of the first bad half: none is told exactly where the digits are good, it is the lowest, where it lies, and that reading a field tells it.
 use Prim.Native.Nat.{ℕ, zero, suc, ◌+◌, ◌-◌, ◌*◌, ◌/◌, ◌%◌, ◌^◌, ◌≤◌, ◌<◌}
-use mathlib.Core.Path.{◌≡◌, refl, sym, ap, ap₂, ◌∙◌, subst}
+use mathlib.Core.Path.{◌≡◌, refl, sym, ap, ap₂, ◌∙◌}
 use mathlib.Core.Bool.{Bool, true, false, cond, ◌&&◌, ◌||◌}
 use mathlib.Core.List.{List, [], ◌∷◌}
 use mathlib.Core.Logic.{◌↔◌}
@@ -8,14 +8,14 @@ use native.Mathlib.Omega.{arith}
 use native.Mathlib.Nat.{pow-suc}
 use lib.Dec.{eqb, leb, ltb}
 use lib.ListN.{length, get_or}
-use borrow.Author.Tests.{leb-true, leb-false, le-leb, lt-leb, ltb-true, ltb-false, lt-ltb, le-ltb, eqb-true, eqb-false, eq-eqb, ne_eqb}
-use Rattle.digits.specs.Packed.{width, good_byte, good, two, value_from, good_field}
+use borrow.Author.Tests.{leb-true, leb-false, le-leb, lt-leb, ltb-true, ltb-false, lt-ltb, le-ltb, eqb-true, eqb-false}
+use Rattle.digits.specs.Packed.{width, good, two, value_from, good_field}
 use Rattle.digits.specs.Fields.{field_from}
 use Rattle.digits.specs.Halves.{bad_from, bad_lead, bad_field, is_none, behind, or_else, half_at, is_bad, Lowest}
 use Rattle.digits.specs.declared.fields.Field.{Field}
 use Rattle.digits.specs.declared.halves.Place.{Place}
 use Rattle.digits.specs.declared.halves.Place.TheVariants.{None, Half}
-use Rattle.digits.proofs.Bools.{no_false, and_left}
+use Rattle.digits.proofs.Bools.{no_false}
 use Rattle.digits.proofs.PackedLaws.{hundred-pow}
 use Rattle.digits.proofs.Values.{even-field, odd-field}
 

@@ -1,19 +1,19 @@
 -- Both round trips, once for every exchange and kind: reading a written frame gives the message, writing a read message gives the bytes.
-use Prim.Native.Nat.{ℕ, ◌+◌, ◌-◌, ◌^◌, ◌≤◌, ◌<◌}
-use mathlib.Core.Path.{◌≡◌, refl, sym, ap, ap₂, ◌∙◌, subst}
-use mathlib.Core.Bool.{Bool, true, false, cond}
-use mathlib.Core.List.{List, [], ◌∷◌, ◌++◌, append-nil}
+use Prim.Native.Nat.{ℕ, ◌+◌, ◌≤◌}
+use mathlib.Core.Path.{◌≡◌, sym, ap, ap₂, ◌∙◌, subst}
+use mathlib.Core.Bool.{true}
+use mathlib.Core.List.{List, [], ◌++◌, append-nil}
 use native.Mathlib.Omega.{arith}
 use lib.ListN.{length, take}
-use lib.Dec.{eqb, leb}
+use lib.Dec.{eqb}
 use borrow.Author.Tests.{eq-eqb, eqb-true, leb-true, le-leb}
 use Rattle.digits.proofs.TestLaws.{holds, all, ◌also◌, together}
 use Rattle.layout.specs.Cells.{Cell, size, good_cells, decode, fits, encode}
 use Rattle.layout.proofs.CellLaws.{length-encode, good-encode, decode-encode, encode-decode, fits-decode}
-use Rattle.frame.specs.Header.{Header, around, own, body, front, rear, length_of, Outlined}
+use Rattle.frame.specs.Header.{Header, around, own, body, front, rear, length_of}
 use Rattle.frame.specs.Writing.{frame_around}
-use Rattle.frame.specs.Codec.{Codec, values_of, Allowed, Reads, legal_tests, legal, frame_of, HeaderLaw, Lawful}
-use Rattle.frame.proofs.HeaderLaws.{length-frame, body-frame, front-frame, rear-frame, own-frame, outlined-frame, own-frame_around, length-own, length-body, least-length, most-length, front_fits, rear-fits}
+use Rattle.frame.specs.Codec.{Codec, values_of, Allowed, Reads, legal_tests, legal, frame_of, Lawful}
+use Rattle.frame.proofs.HeaderLaws.{length-frame, body-frame, front-frame, rear-frame, own-frame, outlined-frame, own-frame_around, length-body, least-length, most-length, front_fits, rear-fits}
 
 module _ {H : Header} {M : Type 0} (C : Codec H M) where
   -- ---- what legal says, by name

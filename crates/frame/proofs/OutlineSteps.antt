@@ -1,19 +1,19 @@
 -- The outline check by check: which number the first check that fails answers. Over any header.
 use Prim.Native.Nat.{ℕ, ◌+◌, ◌-◌, ◌≤◌, ◌<◌}
-use mathlib.Core.Path.{◌≡◌, refl, sym, ap, ap₂, ◌∙◌}
-use mathlib.Core.Bool.{Bool, true, false, ◌&&◌}
-use mathlib.Core.List.{List, [], ◌∷◌, ◌++◌}
+use mathlib.Core.Path.{◌≡◌, sym, ap, ap₂, ◌∙◌}
+use mathlib.Core.Bool.{true, false}
+use mathlib.Core.List.{List, ◌++◌}
 use native.Mathlib.Omega.{arith}
 use lib.ListN.{length, get_or, take, drop, length-append, length-drop}
-use lib.Seq.{take-append-le, drop-append-le, drop-drop, take-take, length-take-le}
-use lib.Dec.{eqb, leb}
+use lib.Seq.{take-append-le, drop-append-le, drop-drop}
+use lib.Dec.{eqb}
 use borrow.Author.Tests.{eq-eqb, ne_eqb, le-leb, lt-leb}
 use Rattle.words.specs.Xor.{xor_of}
 use Rattle.digits.proofs.Bools.{and_both}
 use Rattle.layout.specs.Checks.{first_fail}
 use Rattle.frame.specs.Header.{Header, length_at, length_end, start, around, length_bytes, length_of, own, inner, body, head_good, check_byte, ended, right_length, length_right, last_checks, outline_checks, Outlined}
 use Rattle.frame.specs.Codec.{HeaderLaw}
-use Rattle.frame.proofs.HeaderLaws.{part-taken, right-length, around-length, length-own}
+use Rattle.frame.proofs.HeaderLaws.{part-taken, around-length, length-own}
 
 -- ---- the first check that fails, up to the frame's own bytes
 module _ (H : Header) (t : List ℕ) where

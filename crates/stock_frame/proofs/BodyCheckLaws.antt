@@ -1,18 +1,16 @@
 -- Which check of a body answers: the first that fails, where those before it hold; and what that answer is.
 use Prim.Native.Nat.{ℕ, ◌+◌, ◌≤◌}
-use mathlib.Core.Path.{◌≡◌, refl, sym, ap, ◌∙◌}
+use mathlib.Core.Path.{◌≡◌, sym, ap, ◌∙◌}
 use mathlib.Core.Bool.{Bool, true, false, cond}
 use mathlib.Core.List.{List}
 use lib.ListN.{length}
 use lib.Dec.{eqb, leb}
 use borrow.Author.Tests.{le-leb}
-use Rattle.digits.specs.declared.halves.Place.{Place}
 use Rattle.digits.specs.declared.halves.Place.TheVariants.{None}
 use Rattle.layout.specs.Cells.{Cell, size, good_cells}
 use Rattle.layout.specs.Places.{first_bad}
 use Rattle.layout.specs.Checks.{first_fail}
 use Rattle.answers.specs.Answers.{named}
-use Rattle.answers.specs.declared.Answer.{Answer}
 use Rattle.answers.specs.declared.Answer.TheVariants.{Refused}
 use Rattle.stock_frame.specs.Format.{Format, values_of, around, ranged, body_checks, body_half, body_place, body_answer, digit_answer}
 

@@ -13,7 +13,7 @@ use Rattle.digits.proofs.TestLaws.{holds, all, ◌also◌, together}
 use Rattle.layout.specs.Cells.{size, good_cells, fits, encode}
 use Rattle.frame.specs.Codec as common
 use Rattle.frame.proofs.CodecLaws as laws
-use Rattle.stock_frame.specs.Outline.{header, own, body, version, kind_values, kind_cells}
+use Rattle.stock_frame.specs.Outline.{header, own, body, kind_values, kind_cells}
 use Rattle.stock_frame.specs.Format.{Format, values_of, ranged, around}
 use Rattle.stock_frame.specs.Codec.{Codec, legal_tests, legal, frame_of}
 pub use Rattle.stock_frame.specs.Reads.{Reads}

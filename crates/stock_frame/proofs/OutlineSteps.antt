@@ -7,7 +7,7 @@ use native.Mathlib.Omega.{arith}
 use lib.ListN.{length, get_or, take, drop, length-drop}
 use lib.Seq.{drop-cons, take-length, take-take, get_or-take, get_or-drop, length-take-le}
 use lib.Dec.{eqb, leb}
-use borrow.Author.Tests.{eq-eqb, ne_eqb, le-leb, lt-leb}
+use borrow.Author.Tests.{eq-eqb, ne_eqb, le-leb}
 use Rattle.digits.specs.Packed.{good_byte, good, two, value, good_field}
 use Rattle.words.specs.Blocks.{block_of, no_block, block_at}
 use Rattle.words.specs.declared.blocks.Block.{Block}

@@ -1,14 +1,12 @@
 -- What a reader of frames goes by: what the outline's answer tells, where the body stands on the line, and that bytes behind a frame change nothing.
-use Prim.Native.Nat.{ℕ, zero, suc, ◌+◌, ◌-◌, ◌≤◌}
-use mathlib.Core.Path.{◌≡◌, refl, sym, ap, ap₂, ◌∙◌}
-use mathlib.Core.Bool.{Bool, true, false, cond, ◌&&◌}
-use mathlib.Core.List.{List, [], ◌∷◌, ◌++◌}
+use Prim.Native.Nat.{ℕ, ◌+◌, ◌-◌, ◌≤◌}
+use mathlib.Core.Path.{◌≡◌, refl, sym, ap, ◌∙◌}
+use mathlib.Core.Bool.{Bool, true, false, cond}
+use mathlib.Core.List.{List, ◌++◌}
 use native.Mathlib.Omega.{arith}
-use lib.ListN.{length, get_or, take, drop, length-append, get_or-append}
-use lib.Seq.{take-take, take-append-le, drop-append-le, drop-drop}
+use lib.ListN.{length, get_or, take, drop}
 use lib.Dec.{eqb, leb}
 use borrow.Author.Tests.{eqb-true, eqb-false, leb-true, leb-false}
-use Rattle.digits.specs.Packed.{good_field, value}
 use Rattle.layout.specs.Checks.{first_fail}
 use Rattle.layout.specs.Places.{first_bad}
 use Rattle.digits.specs.declared.halves.Place.TheVariants.{None}

@@ -1,5 +1,5 @@
 -- A place in a part of a frame, with the halves before that part.
-use Prim.Native.Nat.{ℕ, ◌+◌, ◌-◌, ◌*◌, ◌/◌, ◌%◌, ◌≤◌, ◌<◌}
+use Prim.Native.Nat.{ℕ, ◌+◌, ◌-◌, ◌/◌, ◌%◌, ◌≤◌, ◌<◌}
 use mathlib.Core.Path.{◌≡◌, sym, ap, ap₂, ◌∙◌}
 use mathlib.Core.Bool.{Bool, cond}
 use mathlib.Core.List.{List, [], ◌∷◌}
@@ -12,7 +12,6 @@ use Rattle.digits.specs.declared.halves.Place.{Place}
 use Rattle.digits.specs.declared.halves.Place.TheVariants.{None, Half}
 use Rattle.layout.specs.Cells.{Cell}
 use Rattle.layout.specs.Places.{first_bad}
-use Rattle.answers.specs.declared.Answer.{Answer}
 use Rattle.answers.specs.declared.Answer.TheVariants.{Refused}
 use Rattle.stock_frame.specs.Outline.{length_bytes, length_cells, kind_cells}
 use Rattle.stock_frame.specs.Format.{around, body_half, digit_answer}

@@ -1,5 +1,5 @@
 -- Format five, version 01, 14 to 74 bytes: a category, then 0 to 60 bytes of text, handed on unjudged.
-use Rattle.std.specs.Prelude.{ℕ, ◌+◌, ◌-◌, ◌≡◌, Bool, true, cond, ◌||◌, List, ◌∷◌, ◌++◌, length, get_or, take, drop, replicate, eqb}
+use Rattle.std.specs.Prelude.{ℕ, ◌-◌, ◌≡◌, Bool, true, cond, ◌||◌, List, ◌∷◌, ◌++◌, length, get_or, take, drop, replicate, eqb}
 use Rattle.layout.specs.Cells.{Cell, raw, digits}
 use Rattle.layout.specs.Checks.{first_fail}
 use Rattle.stock_frame.specs.Format.{Format, values_of, body_checks, body_answer}

@@ -1,14 +1,13 @@
 -- What owning slots tells of their arrays' lengths.
 use Prim.Native.Nat.{ℕ}
-use mathlib.Core.Path.{◌≡◌, sym, ◌∙◌}
-use mathlib.Core.List.{List, [], ◌∷◌, map}
-use lib.ListN.{length, length-map}
+use mathlib.Core.Path.{◌≡◌}
+use mathlib.Core.List.{List, [], ◌∷◌}
+use lib.ListN.{length}
 use mir.Val.{Val}
 use denote.Array.{Array, each}
 use denote.Shadow.{shadow}
 use denote.Laws.{Is}
-use denote.Struct.Declared.{row, shape}
-use denote.Struct.Struct.{Struct}
+use denote.Struct.Declared.{row}
 use Rattle.amounts.specs.Amounts.{as_price, as_quantity}
 use Rattle.stock_prices.specs.contracts.Prices as prices
 use Rattle.stock_prices.specs.contracts.Slot as slot

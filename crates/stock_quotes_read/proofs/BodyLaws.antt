@@ -13,7 +13,7 @@ use Rattle.amounts.specs.Amounts.{as_quantity}
 use Rattle.amounts.specs.declared.Pair.{Pair}
 use Rattle.amounts.specs.declared.Quantity.{Quantity}
 use Rattle.digits.proofs.Bools.{and_both}
-use Rattle.layout.specs.Cells.{Cell, size, good_cells, decode}
+use Rattle.layout.specs.Cells.{Cell, good_cells, decode}
 use Rattle.layout.specs.Places.{first_bad}
 use Rattle.layout.proofs.PlaceLaws.{first_bad-enough}
 use Rattle.answers.specs.declared.Answer.{Answer}

@@ -1,5 +1,4 @@
 -- `rules::code_right` meets its contract. The loop's invariant: the bytes not yet seen decide.
-use Prim.Native.Nat.{◌-◌}
 use mathlib.Core.Path.{refl}
 use borrow.Author.Rules.{rules}
 use native.Mathlib.Omega.{arith}

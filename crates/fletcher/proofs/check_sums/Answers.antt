@@ -1,5 +1,5 @@
 -- `check_sums` meets its contract: after each piece, summing on from here is summing from the start.
-use Prim.Native.Nat.{◌+◌, ◌-◌}
+use Prim.Native.Nat.{◌+◌}
 use mathlib.Core.Path.{ap, ◌∙◌}
 use Rattle.fletcher.specs.declared.Sums.{Sums}
 use Rattle.fletcher.specs.Fletcher.{with_bytes, between}

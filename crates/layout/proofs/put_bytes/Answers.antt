@@ -1,5 +1,4 @@
 -- `bytes::put_bytes` meets its contract. The loop's invariant: the first i bytes stand at their place.
-use Prim.Native.Nat.{◌-◌}
 use mathlib.Core.Path.{refl, ap, ◌∙◌}
 use borrow.Author.Rules.{rules}
 use native.Mathlib.Omega.{arith}

@@ -1,5 +1,4 @@
 -- `in_use` meets its contract. The loop's invariant: the ends counted so far and those left are all.
-use Prim.Native.Nat.{◌-◌}
 use native.Mathlib.Omega.{arith}
 use Rattle.ledger_ends.proofs.LoopLaws.{counts-on, counts-ends}
 use borrow.Author.Rules.{rules}

@@ -1,5 +1,5 @@
 -- `look_over` meets its contract. The loop's invariant: the ends so far are in order and those left decide; the ends counted so far and those left are all.
-use Prim.Native.Nat.{◌+◌, ◌-◌}
+use Prim.Native.Nat.{◌+◌}
 use native.Mathlib.Omega.{arith}
 use mathlib.Core.Path.{◌≡◌, refl}
 use lib.Dec.{eqb}

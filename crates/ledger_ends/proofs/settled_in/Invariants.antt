@@ -1,5 +1,5 @@
 -- `settled_in` meets its contract. The loop's invariant: what is settled from the place on.
-use Prim.Native.Nat.{◌-◌, ◌≤◌}
+use Prim.Native.Nat.{◌≤◌}
 use mathlib.Core.Path.{◌≡◌}
 use lib.ListN.{length, drop}
 use Rattle.ledger.specs.Ends.{settled_in}

@@ -1,5 +1,4 @@
 -- `text::put_part` meets its contract: up to each turn the text's first bytes are put.
-use Prim.Native.Nat.{◌-◌}
 use mathlib.Core.Path.{ap, ◌∙◌}
 use lib.ListN.{length, take}
 use lib.Seq.{length-sets}

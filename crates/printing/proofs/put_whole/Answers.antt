@@ -1,5 +1,5 @@
 -- `put_whole` meets its contract: up to each turn the text's first bytes are put.
-use Prim.Native.Nat.{ℕ, ◌+◌, ◌-◌}
+use Prim.Native.Nat.{ℕ, ◌+◌}
 use mathlib.Core.Path.{◌≡◌, refl, ◌∙◌, subst}
 use native.Mathlib.Omega.{arith}
 use lib.ListN.{take, get_or, length-set}

@@ -1,5 +1,5 @@
 -- `text::spell` meets its contract: what is still to spell stands before what is spelt.
-use Prim.Native.Nat.{◌+◌, ◌-◌, ◌%◌}
+use Prim.Native.Nat.{◌+◌, ◌%◌}
 use native.Mathlib.Omega.{arith}
 use lib.ListN.{length-set}
 use Rattle.printing.proofs.TextLaws.{spelt-begins, spelt-ends, spelt-goes-on}

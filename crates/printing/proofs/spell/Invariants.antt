@@ -1,5 +1,4 @@
 -- `text::spell` meets its contract: what is still to spell stands before what is spelt.
-use Prim.Native.Nat.{◌-◌}
 use Rattle.printing.proofs.TextLaws.{Spelt}
 use Rattle.printing.proofs.spell.Given as goal
 

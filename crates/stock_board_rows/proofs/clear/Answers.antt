@@ -3,10 +3,9 @@ use Prim.Native.Nat.{ℕ}
 use mathlib.Core.Path.{◌≡◌, ap, ap₂, ◌∙◌}
 use mathlib.Core.List.{List}
 use native.Mathlib.Omega.{arith}
-use lib.ListN.{length, set}
+use lib.ListN.{set}
 use Rattle.stock_board.specs.declared.Row.{Row}
 use Rattle.stock_board.specs.declared.Change.{Change}
-use Rattle.stock_board_rows.specs.Steps.{clearing_of}
 use Rattle.stock_board_rows.proofs.ClearLaws.{filled, fill-row, fill-cleared}
 use Rattle.stock_board_rows.proofs.clear.Goals as goal
 

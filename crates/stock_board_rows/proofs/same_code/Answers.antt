@@ -1,5 +1,4 @@
 -- `same_code` meets its contract. The loop's invariant: the bytes not yet compared decide.
-use Prim.Native.Nat.{◌-◌}
 use mathlib.Core.Path.{◌≡◌}
 use borrow.Author.Rules.{rules}
 use native.Mathlib.Omega.{arith}

@@ -49,8 +49,7 @@ times_right-requires c =
     let long : length c.args.body.now ≡ 13 = c.if-n-ne13.false in
     let inside : 6 + 6 ≤ length c.args.body.now = omega (arith, long) in
     let times-read : c.six_at-times.result ≡ block_at 6 2 c.args.body.now 6 = c.six_at-times.ensures in
-    let times-good : c.six_at-times.result.good ≡ true = not-false _ c.if-not-times.false in
-    (
+    let times-good : c.six_at-times.result.good ≡ true = not-false _ c.if-not-times.false in (
       inside,
       first_good c.args.body.now 6 inside c.six_at-times.result times-read times-good,
       first-time c.args.body.now 6 inside c.six_at-times.result times-read times-good,

@@ -3,7 +3,7 @@ use mathlib.Core.Path.{◌≡◌, sym, ap}
 use mathlib.Core.Bool.{Bool, cond, ◌&&◌}
 use native.Mathlib.Omega.{arith}
 use lib.Dec.{leb}
-use borrow.Author.Tests.{not-true, not-false, le-leb, lt-leb}
+use borrow.Author.Tests.{le-leb, lt-leb}
 use Rattle.stock_prices.proofs.AndLaws.{none, later}
 use Rattle.digits.proofs.Bools.{and_both}
 use Rattle.stock_prices_read.specs.Steps.{row_of}

@@ -1,13 +1,9 @@
 -- `side_at` meets its contract. The loop's invariant: the pairs read, the pairs left and the zeros are the whole side.
-use Prim.Native.Nat.{◌-◌, ◌+◌, ◌*◌}
+use Prim.Native.Nat.{◌+◌, ◌*◌}
 use mathlib.Core.Path.{sym, ◌∙◌}
 use native.Mathlib.Omega.{arith}
 use Rattle.digits.proofs.Bools.{no_false}
 use Rattle.stock_quotes_read.proofs.SideLaws.{side-starts, side-bad, side-turn, side-ends, pair-good, pair-bad}
-use Rattle.stock_quotes_read.proofs.side_at.Reads as reads
-use Rattle.stock_quotes_read.proofs.side_at.Lts as lts
-use Rattle.amounts.proofs.Pair.from_digits.Reads as from-digits-reads
-use Rattle.stock_quotes.proofs.no_pair.Reads as no-pair-reads
 use Rattle.stock_quotes_read.proofs.side_at.Goals as goal
 
 pub loop-i-init : goal.loop-i-init

@@ -1,5 +1,4 @@
 -- `side_right` meets its contract. The loop's invariant: the test of the pairs left is the test of all.
-use Prim.Native.Nat.{◌-◌}
 use mathlib.Core.Path.{◌≡◌, sym, ◌∙◌}
 use borrow.Author.Rules.{rules}
 use native.Mathlib.Omega.{arith}

@@ -1,5 +1,4 @@
 -- `blocks::all_zero` meets its contract: what is added up so far and what is left say it of all.
-use Prim.Native.Nat.{◌-◌}
 use mathlib.Core.Path.{refl, ◌∙◌}
 use Rattle.capture.proofs.BlockLaws.{zero_turn, zero-end}
 use native.Mathlib.Omega.{arith}

@@ -1,5 +1,4 @@
 -- `reading::clear` meets its contract: at each turn the bytes before are zeros.
-use Prim.Native.Nat.{◌-◌}
 use mathlib.Core.Path.{refl}
 use lib.ListN.{length-set}
 use Rattle.list_laws.proofs.Zeros.{zero-next, zero-all}

@@ -1,5 +1,4 @@
 -- `searches::numbered_behind` meets its contract: looking on from here is looking from the start.
-use Prim.Native.Nat.{◌-◌}
 use mathlib.Core.Path.{refl, ◌∙◌}
 use Rattle.capture.specs.Searches.{numbered_behind}
 use Rattle.capture.proofs.SearchLaws.{slice-long, found-numbered, past-unfinished, none-behind}

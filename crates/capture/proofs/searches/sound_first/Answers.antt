@@ -1,7 +1,5 @@
 -- `searches::sound_first` meets its contract: counting on from here is counting from the start.
-use Prim.Native.Nat.{◌-◌}
 use mathlib.Core.Path.{◌∙◌}
-use borrow.Author.Tests.{not-true, not-false}
 use Rattle.capture.proofs.SearchLaws.{slice-long, at-unformed, at-unsound, past-sound, all_sound, search-starts}
 use borrow.Author.Rules.{rules}
 use native.Mathlib.Omega.{arith}
@@ -20,8 +18,7 @@ returns-then-not-is_formed c =
 
 pub returns-then-not-check_fits : goal.returns-then-not-check_fits
 returns-then-not-check_fits c =
-    let l = c.loop-n in
-    (
+    let l = c.loop-n in (
       at-unsound c.args.capture.now l.n (omega arith) c.is_formed.result c.is_formed.ensures c.check_fits.result c.check_fits.ensures c.if-not-is_formed.false
           c.if-not-check_fits.true ∙ l.invariant.1,
       search rules,
@@ -29,8 +26,7 @@ returns-then-not-check_fits c =
 
 pub loop-n-preserved : goal.loop-n-preserved
 loop-n-preserved c =
-    let l = c.loop-n in
-    (
+    let l = c.loop-n in (
       search rules,
       past-sound c.args.capture.now l.n (omega arith) c.is_formed.result c.is_formed.ensures c.check_fits.result c.check_fits.ensures
           c.if-not-is_formed.false c.if-not-check_fits.false ∙ l.invariant.1,

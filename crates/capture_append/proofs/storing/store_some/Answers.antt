@@ -1,5 +1,4 @@
 -- `storing::store_some` meets its contract: at each turn of both loops memory is as after so many stores.
-use Prim.Native.Nat.{◌-◌}
 use mathlib.Core.Path.{refl, ◌∙◌}
 use Rattle.capture_append.proofs.StoreLaws.{store-next, store_long, stores-end}
 use native.Mathlib.Omega.{arith}
@@ -14,8 +13,7 @@ store-requires c = (omega arith, omega arith)
 pub loop-j-preserved : goal.loop-j-preserved
 loop-j-preserved c =
     let l = c.loop-j in
-    let a = c.args in
-    (
+    let a = c.args in (
       omega arith,
       omega arith,
       store_long a.capture.now l.capture c.store.new.capture a.start a.block.now l.j l.invariant.2 c.store.ensures,
@@ -32,8 +30,7 @@ pub loop-j-2-preserved : goal.loop-j-2-preserved
 loop-j-2-preserved c =
     let l = c.loop-j-2 in
     let began = c.loop-j in
-    let a = c.args in
-    (
+    let a = c.args in (
       omega arith,
       omega arith,
       store_long began.capture l.capture c.store-in-loop-j-2.new.capture a.start a.block.now l.j l.invariant.2 c.store-in-loop-j-2.ensures,

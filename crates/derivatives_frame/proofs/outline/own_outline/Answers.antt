@@ -2,7 +2,6 @@
 use Prim.Native.Nat.{◌≤◌}
 use mathlib.Core.Path.{◌≡◌}
 use mathlib.Core.Bool.{false}
-use mathlib.Core.Logic.{⊎_elim}
 use native.Mathlib.Omega.{arith}
 use lib.ListN.{length}
 use Rattle.frame.specs.Header.{head_good}
@@ -34,9 +33,9 @@ pub returns : goal.returns
 returns c =
     let long : 12 ≤ length c.args.f.now = omega (arith, c.requires.0) in
     let bad-head : head_good header c.args.f.now ≡ false = elim c.if-h.branch [
-      then-h+then-high-le9+else-low-le9 w ↦ bad-low c.args.f.now long c.eight_at-h.result c.eight_at-h.ensures w.if-low-le9.false
-    | then-h+else-high-le9 w ↦ bad-high c.args.f.now long c.eight_at-h.result c.eight_at-h.ensures w.if-high-le9.false
-    | else-h w ↦ bad-block c.args.f.now long c.eight_at-h.result c.eight_at-h.ensures w.if-h.false
+      | then-h+then-high-le9+else-low-le9 w ↦ bad-low c.args.f.now long c.eight_at-h.result c.eight_at-h.ensures w.if-low-le9.false
+      | then-h+else-high-le9 w ↦ bad-high c.args.f.now long c.eight_at-h.result c.eight_at-h.ensures w.if-high-le9.false
+      | else-h w ↦ bad-block c.args.f.now long c.eight_at-h.result c.eight_at-h.ensures w.if-h.false
     ] in
     own-head c.args.f.now c.if-f-n-ne13.false c.if-f-n-ne10.false c.xor_of-x.result c.xor_of-x.ensures c.if-f-n.false
     bad-head c.head_place-place.result c.head_place-place.ensures

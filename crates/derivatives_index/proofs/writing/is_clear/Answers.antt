@@ -1,5 +1,4 @@
 -- `writing::is_clear` meets its contract. The loop's invariant: the bytes not yet seen decide.
-use Prim.Native.Nat.{◌-◌}
 use mathlib.Core.Path.{refl, sym}
 use borrow.Author.Rules.{rules}
 use borrow.Author.Tests.{ne_eqb, eq-eqb}

@@ -1,5 +1,5 @@
 -- `fields::limit` meets its contract. The loop's invariant: after k turns the number is 100 ^ k.
-use Prim.Native.Nat.{ℕ, ◌-◌, ◌^◌}
+use Prim.Native.Nat.{ℕ, ◌^◌}
 use mathlib.Core.Path.{◌≡◌, ap, ◌∙◌}
 use native.Mathlib.Omega.{arith}
 use Rattle.digits.proofs.Powers.{pow-next, pow-eight}

@@ -1,5 +1,5 @@
 -- `fields::read_by` meets its contract. The loop's invariant: reading on from here is reading from the start.
-use Prim.Native.Nat.{◌+◌, ◌-◌, ◌<◌}
+use Prim.Native.Nat.{◌+◌, ◌<◌}
 use borrow.Author.Rules.{rules}
 use native.Mathlib.Omega.{arith}
 use lib.ListN.{get_or}

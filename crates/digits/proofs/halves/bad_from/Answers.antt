@@ -1,5 +1,4 @@
 -- `halves::bad_from` meets its contract. The loop's invariant: looking on from here is looking from the start.
-use Prim.Native.Nat.{◌-◌}
 use mathlib.Core.Path.{◌∙◌}
 use native.Mathlib.Omega.{arith}
 use Rattle.digits.proofs.HalfSteps.{look-starts, look-ends, look-past, look-high, look-low, look-turn}

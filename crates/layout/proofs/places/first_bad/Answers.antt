@@ -1,5 +1,4 @@
 -- `places::first_bad` meets its contract. The loop's invariant: looking on from here is looking from the start.
-use Prim.Native.Nat.{◌-◌}
 use mathlib.Core.Path.{◌∙◌}
 use native.Mathlib.Omega.{arith}
 use Rattle.digits.specs.Halves.{looked}

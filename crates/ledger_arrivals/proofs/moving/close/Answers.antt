@@ -1,5 +1,5 @@
 -- `moving::close` meets its contract. The loop's invariant: the ends moved so far and those left are the ends without two.
-use Prim.Native.Nat.{◌+◌, ◌-◌}
+use Prim.Native.Nat.{◌+◌}
 use native.Mathlib.Omega.{arith}
 use mathlib.Core.Path.{◌≡◌, refl}
 use lib.ListN.{get_or, length-set}

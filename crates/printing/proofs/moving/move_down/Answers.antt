@@ -1,5 +1,5 @@
 -- `moving::move_down` meets its contract: at each turn so many bytes are moved.
-use Prim.Native.Nat.{◌-◌, ◌<◌}
+use Prim.Native.Nat.{◌<◌}
 use native.Mathlib.Omega.{arith}
 use borrow.Author.Rules.{rules}
 use lib.ListN.{length}

@@ -1,5 +1,4 @@
 -- `clearing::clear_cells` meets its contract. The loop's invariant: the first i numbers are 0, and the others as they were.
-use Prim.Native.Nat.{◌-◌}
 use mathlib.Core.Path.{refl}
 use native.Mathlib.Omega.{arith}
 use borrow.Author.Rules.{rules}

@@ -1,5 +1,4 @@
 -- `finding::count_of` meets its contract. The loop's invariant: those counted and those from here on are all.
-use Prim.Native.Nat.{◌-◌}
 use native.Mathlib.Omega.{arith}
 use borrow.Author.Rules.{rules}
 use Rattle.stock_board_flat.proofs.FindLaws.{count_next, count-end}

@@ -1,5 +1,4 @@
 -- `finding::scan` meets its contract. The loop's invariant: what is found from here on is what is found from the start.
-use Prim.Native.Nat.{◌-◌}
 use mathlib.Core.Path.{sym, ◌∙◌}
 use native.Mathlib.Omega.{arith}
 use borrow.Author.Rules.{rules}

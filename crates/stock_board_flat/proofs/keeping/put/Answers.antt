@@ -1,5 +1,4 @@
 -- `keeping::put` meets its contract. The loop's invariant: the first i numbers stand at their place.
-use Prim.Native.Nat.{◌-◌}
 use mathlib.Core.Path.{refl, ap, ◌∙◌}
 use native.Mathlib.Omega.{arith}
 use lib.Seq.{sets, take_all}

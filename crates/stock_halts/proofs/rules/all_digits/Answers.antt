@@ -1,5 +1,4 @@
 -- `rules::all_digits` meets its contract. The loop's invariant: the bytes left decide.
-use Prim.Native.Nat.{◌-◌}
 use mathlib.Core.Path.{refl, sym, ◌∙◌}
 use borrow.Author.Rules.{rules}
 use Rattle.stock_halts.specs.Halts.{digit_byte}

@@ -1,5 +1,4 @@
 -- `rules::count_of` meets its contract. The loop's invariant: reading on from here is reading from the start.
-use Prim.Native.Nat.{◌-◌}
 use mathlib.Core.Path.{refl}
 use borrow.Author.Rules.{rules}
 use native.Mathlib.Omega.{arith}

@@ -1,5 +1,4 @@
 -- `rules::all_between` meets its contract. The loop's invariant: the bytes from i on pass where all do.
-use Prim.Native.Nat.{◌-◌}
 use mathlib.Core.Path.{refl, ap, ap₂}
 use mathlib.Core.Bool.{Bool, ◌&&◌}
 use native.Mathlib.Omega.{arith}

@@ -1,5 +1,4 @@
 -- `rules::all_zero` meets its contract. The loop's invariant: the numbers from i on are zero where all do.
-use Prim.Native.Nat.{◌-◌}
 use mathlib.Core.Path.{refl}
 use native.Mathlib.Omega.{arith}
 use borrow.Author.Rules.{rules}

@@ -1,8 +1,7 @@
 -- `slots::figures_at` meets its contract.
-use Prim.Native.Nat.{ℕ, ◌+◌}
+use Prim.Native.Nat.{◌+◌}
 use mathlib.Core.Path.{◌≡◌, sym, ◌∙◌}
 use mathlib.Core.Bool.{true, ◌&&◌}
-use mathlib.Core.List.{List}
 use native.Mathlib.Omega.{arith}
 use Rattle.digits.specs.Packed.{good_field, value}
 use Rattle.digits.proofs.Bools.{and_both}

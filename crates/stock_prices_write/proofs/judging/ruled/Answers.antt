@@ -1,5 +1,4 @@
 -- `judging::ruled` meets its contract. The loop's invariant: the test that goes on from slot i is the test of all.
-use Prim.Native.Nat.{◌-◌}
 use mathlib.Core.Path.{sym, ◌∙◌}
 use native.Mathlib.Omega.{arith}
 use Rattle.stock_prices.specs.Prices.{slot_ruled}

@@ -1,5 +1,4 @@
 -- `judging::slots_fit` meets its contract. The loop's invariant: the slots from i on fit where all do.
-use Prim.Native.Nat.{◌-◌}
 use mathlib.Core.Path.{refl, sym, ◌∙◌}
 use native.Mathlib.Omega.{arith}
 use Rattle.stock_prices.proofs.Shapes.{some_slot, codes-long}

@@ -1,5 +1,4 @@
 -- `judging::timed` meets its contract. The loop's invariant: the test that goes on from slot i is the test of all.
-use Prim.Native.Nat.{◌-◌}
 use mathlib.Core.Path.{sym, ◌∙◌}
 use native.Mathlib.Omega.{arith}
 use lib.ListN.{get_or}

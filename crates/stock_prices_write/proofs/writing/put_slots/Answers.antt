@@ -1,5 +1,4 @@
 -- `writing::put_slots` meets its contract. The loop's invariant: putting the bytes of the slots from i on is putting those of all.
-use Prim.Native.Nat.{◌-◌}
 use mathlib.Core.Path.{refl, sym, ap, ◌∙◌}
 use native.Mathlib.Omega.{arith}
 use lib.ListN.{length, get_or}
@@ -22,8 +21,7 @@ put_slot-requires c =
 pub loop-i-preserved : goal.loop-i-preserved
 loop-i-preserved c =
     let l = c.loop-i in
-    let k = codes-long 10 c.args.slots _ c.well_formed.0 in
-    (
+    let k = codes-long 10 c.args.slots _ c.well_formed.0 in (
       omega arith,
       omega arith,
       ap length c.put_slot.ensures ∙ length-sets l.buf l.at (encode slot_cells (slot_values (get_or c.args.slots l.i some_slot))) ∙ l.invariant.2,

@@ -1,5 +1,4 @@
 -- `stretch::noise` meets its contract: what was passed and the noise ahead are the noise from the place on.
-use Prim.Native.Nat.{◌-◌}
 use native.Mathlib.Omega.{arith}
 use Rattle.walk.proofs.NoiseLaws.{noise-ends, noise-stops, noise-goes-on}
 use Rattle.walk.proofs.stretch.noise.Goals as goal

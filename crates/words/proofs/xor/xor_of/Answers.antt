@@ -1,6 +1,6 @@
 -- `check::xor_of` meets its contract. The loop's invariant: whole eights are passed, and the number gathered, with the bytes left, gives what all give.
 use borrow.Author.Rules.{rules}
-use Prim.Native.Nat.{◌+◌, ◌-◌}
+use Prim.Native.Nat.{◌+◌}
 use mathlib.Core.Path.{ap, ◌∙◌}
 use native.Mathlib.Omega.{arith}
 use Rattle.words.specs.Steps.{gathered}
