@@ -11,37 +11,37 @@ const NINE: u8 = 9;
 const ABOVE_EIGHT: u32 = 100_000_000;
 
 // A price in ten-thousandths.
-#[derive(Drop)]
+#[derive(Clone, Copy)]
 pub struct Price(pub u32);
 
 // A quantity in the stock's own trading units.
-#[derive(Drop)]
+#[derive(Clone, Copy)]
 pub struct Quantity(pub u32);
 
 // An index value in thousandths.
-#[derive(Drop)]
+#[derive(Clone, Copy)]
 pub struct Thousandths(pub u32);
 
 // A price with the quantity offered or traded at it.
-#[derive(Drop)]
+#[derive(Clone, Copy)]
 pub struct Pair {
     pub price: Price,
     pub quantity: Quantity,
 }
 
-#[derive(Drop)]
+#[derive(Clone, Copy)]
 pub enum PriceField {
     Is(Price),
     Bad,
 }
 
-#[derive(Drop)]
+#[derive(Clone, Copy)]
 pub enum QuantityField {
     Is(Quantity),
     Bad,
 }
 
-#[derive(Drop)]
+#[derive(Clone, Copy)]
 pub enum PairField {
     Is(Pair),
     Bad,

@@ -6,7 +6,7 @@ use digits::halves::Place;
 
 // An accepted frame: its whole length in bytes, its format and its number. In this order they lie where a refusal has its length and
 // its place, so that an answer is handed on in whole registers.
-#[derive(Drop)]
+#[derive(Clone, Copy)]
 pub struct Frame {
     pub length: usize,
     pub format: u8,
@@ -14,7 +14,7 @@ pub struct Frame {
 }
 
 // What a reading says.
-#[derive(Drop)]
+#[derive(Clone, Copy)]
 pub enum Answer {
     // 0
     Accepted(Frame),
@@ -63,7 +63,7 @@ impl Answer {
 }
 
 // What a writing says.
-#[derive(Drop)]
+#[derive(Clone, Copy)]
 pub enum Written {
     // 0, with the frame's length
     Done(usize),

@@ -14,7 +14,7 @@ pub const MOST: usize = 504;
 pub const SIZE: usize = 65536;
 
 // What clearing answers.
-#[derive(Drop)]
+#[derive(Clone, Copy)]
 pub enum Cleared {
     // 0
     Done,
@@ -23,7 +23,7 @@ pub enum Cleared {
 }
 
 // How many blocks are finished.
-#[derive(Drop)]
+#[derive(Clone, Copy)]
 pub enum Held {
     Blocks(usize),
     // 34
@@ -33,7 +33,7 @@ pub enum Held {
 }
 
 // A payload, as a part of the capture.
-#[derive(Drop)]
+#[derive(Clone, Copy)]
 pub enum Part {
     // where it begins, and how many bytes it has
     Bytes(usize, usize),

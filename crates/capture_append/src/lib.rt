@@ -18,7 +18,7 @@ use storing::store_some;
 const SUMMED: usize = 2048;
 
 // What an append answers.
-#[derive(Drop)]
+#[derive(Clone, Copy)]
 pub enum Taken {
     // the place of the block
     At(usize),

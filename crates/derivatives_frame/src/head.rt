@@ -3,7 +3,7 @@ use answers::Answer;
 
 // The header of a frame whose outline is whole: the transmission code, the kind, the time of sending, the number and the version, and the
 // length of the whole frame.
-#[derive(Drop)]
+#[derive(Clone, Copy)]
 pub struct Head {
     pub market: u8,
     pub kind: u8,
@@ -13,7 +13,7 @@ pub struct Head {
     pub length: usize,
 }
 
-#[derive(Drop)]
+#[derive(Clone, Copy)]
 pub enum Outline {
     Whole(Head),
     Not(Answer),

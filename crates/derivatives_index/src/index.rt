@@ -7,7 +7,7 @@ use answers::Answer;
 
 // The value of an underlying for a contract of so many bytes; the bytes behind it are zero. The market is the transmission code, `1` for
 // futures or `4` for options; the kind is `5` in I060 and `8` in I064; both times are HHMMSS and hundredths.
-#[derive(Drop)]
+#[derive(Clone, Copy)]
 pub struct Index {
     pub market: u8,
     pub kind: u8,
@@ -21,7 +21,7 @@ pub struct Index {
 }
 
 // What reading a body finds; the index value is the empty one where the answer is a refusal.
-#[derive(Drop)]
+#[derive(Clone, Copy)]
 pub struct IndexReading {
     pub answer: Answer,
     pub index: Index,

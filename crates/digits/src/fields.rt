@@ -14,7 +14,7 @@ pub const WIDEST: usize = 9;
 const PAST_FOUR: u64 = 100_000_000;
 
 // What reading a field finds.
-#[derive(Drop)]
+#[derive(Clone, Copy)]
 pub enum Field {
     // the number
     Value(u64),
@@ -25,7 +25,7 @@ pub enum Field {
 }
 
 // What writing a field did.
-#[derive(Drop)]
+#[derive(Clone, Copy)]
 pub enum Put {
     // every byte of the field is written
     Done,

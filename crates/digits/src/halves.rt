@@ -4,7 +4,7 @@ ghost use Rattle.digits.specs.declared.halves.Place.TheVariants.{Half};
 ghost use Rattle.digits.specs.Halves.{bad_from, bad_in, bad_at};
 
 // Where the first bad half is, counted in halves from 0, the high half of a byte first.
-#[derive(Drop)]
+#[derive(Clone, Copy)]
 pub enum Place {
     // no half is bad
     None,

@@ -3,7 +3,7 @@ ghost use Rattle.std.specs.Prelude.{◌≡◌, ◌+◌, ◌*◌, ◌%◌, ◌≤
 ghost use Rattle.fletcher.specs.Fletcher.{sums_of, with_bytes, fletcher, between};
 
 // Both sums, each from 0 to 254.
-#[derive(Drop)]
+#[derive(Clone, Copy)]
 pub struct Sums {
     pub first: u8,
     pub second: u8,

@@ -3,7 +3,7 @@ ghost use Rattle.std.specs.Prelude.{◌≡◌};
 ghost use Rattle.ledger.specs.Calls.{fresh};
 
 // A number is settled when it was recorded, or is not above the floor: nothing more is waited for.
-#[derive(Drop)]
+#[derive(Clone, Copy)]
 pub struct Ledger {
     // The numbers from 1 to the highest fall into unbroken stretches, settled and missing by turns. From the top down, the
     // last number of each stretch, first the highest, which ends a settled one; then zeros. 64 missing runs take 129 places.
@@ -15,7 +15,7 @@ pub struct Ledger {
 }
 
 // What an arrival is answered.
-#[derive(Drop)]
+#[derive(Clone, Copy)]
 pub enum Arrival {
     New,
     Repeat,
@@ -24,14 +24,14 @@ pub enum Arrival {
 }
 
 // The ledger after an arrival; as it was unless the answer is `New`.
-#[derive(Drop)]
+#[derive(Clone, Copy)]
 pub struct Arrived {
     pub ledger: Ledger,
     pub answer: Arrival,
 }
 
 // What a question for a figure is answered.
-#[derive(Drop)]
+#[derive(Clone, Copy)]
 pub enum Figure {
     Is(u32),
     // 20
@@ -39,7 +39,7 @@ pub enum Figure {
 }
 
 // What a question for the missing run at a place is answered, and giving the lowest one up.
-#[derive(Drop)]
+#[derive(Clone, Copy)]
 pub enum RunAt {
     // its first and its last number
     Run(u32, u32),
@@ -48,7 +48,7 @@ pub enum RunAt {
 }
 
 // The ledger after giving its lowest missing run up; as it was where that is refused.
-#[derive(Drop)]
+#[derive(Clone, Copy)]
 pub struct GaveUp {
     pub ledger: Ledger,
     pub answer: RunAt,

@@ -12,7 +12,7 @@ pub const FEW: usize = 17;
 pub const SOME: usize = 65;
 
 // What a look over a record finds.
-#[derive(Drop)]
+#[derive(Clone, Copy)]
 pub struct Seen {
     // a series of arrivals and give-ups leaves such a record: each end lies below the one before it, behind the last stand
     // zeros, and the floor fits

@@ -1,7 +1,7 @@
 // What the arguments of a program ask for that reads a line of either exchange.
 use lines::exchanges::Exchange;
 
-#[derive(Drop)]
+#[derive(Clone, Copy)]
 pub enum Asked {
     // no argument: a line of the stock exchange; derivatives-2015: one of the derivatives exchange
     Line(Exchange),

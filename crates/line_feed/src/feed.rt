@@ -21,7 +21,7 @@ pub const ARGUMENT: u8 = 4;
 pub const FULL: u8 = 16;
 
 // The small fields stand together, at the end: with a gap behind one of them a copy takes several times as long.
-#[derive(Drop)]
+#[derive(Clone, Copy)]
 pub struct Feed {
     // the bytes in hand that are not done with: from a place of the input buffer up to an end
     pub at: usize,

@@ -10,7 +10,7 @@ use lines::exchanges::Exchange;
 use stock_frame::head::Head;
 use stock_lines::frames::{Ahead, next_frame as ahead};
 
-#[derive(Drop)]
+#[derive(Clone, Copy)]
 pub struct Frames {
     pub feed: Feed,
     // where on the whole line the bytes in hand that are not done with begin
@@ -18,7 +18,7 @@ pub struct Frames {
 }
 
 // A frame: its header, its place on the whole line, and where its bytes and its body stand in the input buffer.
-#[derive(Drop)]
+#[derive(Clone, Copy)]
 pub struct Framed {
     pub head: Head,
     pub place: u64,
@@ -30,7 +30,7 @@ pub struct Framed {
     pub end: usize,
 }
 
-#[derive(Drop)]
+#[derive(Clone, Copy)]
 pub enum FramePull {
     Frame(Frames, Framed),
     // no more frames: the line has ended
@@ -50,7 +50,7 @@ impl Frames {
 }
 
 // What the bytes in hand give.
-#[derive(Drop)]
+#[derive(Clone, Copy)]
 enum Hand {
     One(Frames, Framed),
     Nothing(Frames),

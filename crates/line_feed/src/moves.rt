@@ -11,7 +11,7 @@ use lines::pieces::stretch_at;
 use walk::rows::Row;
 use walk::stretch::Stretch;
 
-#[derive(Drop)]
+#[derive(Clone, Copy)]
 pub struct Moves {
     pub feed: Feed,
     // where on the whole line the bytes in hand that are not done with begin
@@ -20,14 +20,14 @@ pub struct Moves {
 
 // A move, at its place on the whole line, and where its bytes stand in the input buffer. Of skipped bytes it may be several: all
 // that are in hand before the next 27.
-#[derive(Drop)]
+#[derive(Clone, Copy)]
 pub struct Moved {
     pub row: Row,
     pub from: usize,
     pub to: usize,
 }
 
-#[derive(Drop)]
+#[derive(Clone, Copy)]
 pub enum MovePull {
     Move(Moves, Moved),
     // no more moves: the line has ended
@@ -47,7 +47,7 @@ impl Moves {
 }
 
 // What the bytes in hand give.
-#[derive(Drop)]
+#[derive(Clone, Copy)]
 enum Hand {
     One(Moves, Moved),
     Nothing(Moves),

@@ -10,7 +10,7 @@ use lines::exchanges::Exchange;
 use lines::pieces::next_rows;
 use walk::rows::{Kept, Next, Row};
 
-#[derive(Drop)]
+#[derive(Clone, Copy)]
 pub struct Rows {
     pub feed: Feed,
     // what the walk keeps from the pieces before
@@ -19,7 +19,7 @@ pub struct Rows {
     pub later: Row,
 }
 
-#[derive(Drop)]
+#[derive(Clone, Copy)]
 pub enum RowPull {
     Row(Rows, Row),
     // no more rows: the line has ended
@@ -49,7 +49,7 @@ impl Rows {
 }
 
 // What the bytes in hand give.
-#[derive(Drop)]
+#[derive(Clone, Copy)]
 enum Hand {
     One(Rows, Row),
     Nothing(Rows),

@@ -6,7 +6,7 @@ use answers::Answer;
 use derivatives_reading::read as read_derivatives;
 use stock_reading::reading::read as read_stock;
 
-#[derive(Drop)]
+#[derive(Clone, Copy)]
 pub enum Exchange {
     Stock,
     // the derivatives exchange, as it was in 2015

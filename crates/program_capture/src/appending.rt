@@ -9,7 +9,7 @@ use capture_append::{Taken, append, append_cut};
 use libc::STDIN_FILENO;
 
 // What became of a block.
-#[derive(Drop)]
+#[derive(Clone, Copy)]
 enum Kept {
     Done,
     // the file did not take it

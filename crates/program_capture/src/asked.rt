@@ -1,6 +1,6 @@
 // What the arguments ask for.
 
-#[derive(Drop)]
+#[derive(Clone, Copy)]
 pub(crate) enum Asked {
     Append,
     Show,

@@ -13,7 +13,7 @@ pub(crate) const ROOM: usize = SIZE + 1;
 const NAMES: usize = 100;
 
 // What was read: how many bytes, and whether a read failed behind them.
-#[derive(Drop)]
+#[derive(Clone, Copy)]
 pub(crate) struct Filled {
     pub(crate) count: usize,
     pub(crate) failed: bool,
@@ -84,7 +84,7 @@ fn zeros_stored(fd: i32, name: &[u8]) -> bool {
 }
 
 // What became of a file that was to be made.
-#[derive(Drop)]
+#[derive(Clone, Copy)]
 enum Made {
     Done,
     // it is said why not

@@ -1,6 +1,6 @@
 // What the arguments ask for.
 
-#[derive(Drop)]
+#[derive(Clone, Copy)]
 pub(crate) enum Asked {
     // no argument: arrivals that the ledger has no room for are told
     Told,

@@ -15,7 +15,7 @@ use line_feed::output::written;
 use report::put_report;
 
 // What a whole line has come to: its feed, and the day.
-#[derive(Drop)]
+#[derive(Clone, Copy)]
 struct Heard {
     feed: Feed,
     day: Day,

@@ -13,7 +13,7 @@ use walk::rows::Row;
 use walk::tally::Tally;
 
 // What a listing has come to.
-#[derive(Drop)]
+#[derive(Clone, Copy)]
 struct Listing {
     rows: Rows,
     total: Tally,

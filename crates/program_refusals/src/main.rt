@@ -15,7 +15,7 @@ use objects::SHOWN;
 use runs::{Walked, ended, with_move};
 
 // What a line comes to by one move more.
-#[derive(Drop)]
+#[derive(Clone, Copy)]
 enum Turn {
     On(Walked),
     // at its end, or where something failed: what failed, or 0

@@ -8,14 +8,14 @@ use printing::put_all;
 use walk::rows::{Kept, Row, Told};
 
 // The skipped bytes since the last frame, and how many of the first ones are held.
-#[derive(Drop)]
+#[derive(Clone, Copy)]
 pub(crate) struct Run {
     kept: Kept,
     held: usize,
 }
 
 // What a line has come to.
-#[derive(Drop)]
+#[derive(Clone, Copy)]
 pub(crate) struct Walked {
     pub(crate) moves: Moves,
     pub(crate) run: Run,

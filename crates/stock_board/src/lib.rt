@@ -6,21 +6,21 @@ use amounts::{Pair, Quantity};
 use stock_quotes::{Levels, Quote, no_pair};
 
 // The last trade that a stock's messages sent.
-#[derive(Drop)]
+#[derive(Clone, Copy)]
 pub enum LastTrade {
     NoneYet,
     At(Pair),
 }
 
 // One side of a stock's book: its levels, best first, with zeros behind them, and how many there are.
-#[derive(Drop)]
+#[derive(Clone, Copy)]
 pub struct Side {
     pub count: u8,
     pub levels: [Pair; 5],
 }
 
 // What a stock's own messages last said. A row with six zero bytes for its code is free.
-#[derive(Drop)]
+#[derive(Clone, Copy)]
 pub struct Row {
     pub code: [u8; 6],
     // HHMMSS and six digits of fraction
@@ -34,7 +34,7 @@ pub struct Row {
 }
 
 // What a call on a board answers.
-#[derive(Drop)]
+#[derive(Clone, Copy)]
 pub enum BoardAnswer {
     // 0
     Done,
@@ -43,14 +43,14 @@ pub enum BoardAnswer {
 }
 
 // The row that was asked for; the free row beside a refusal.
-#[derive(Drop)]
+#[derive(Clone, Copy)]
 pub struct Asked {
     pub answer: BoardAnswer,
     pub row: Row,
 }
 
 // How many rows are in use.
-#[derive(Drop)]
+#[derive(Clone, Copy)]
 pub enum InUse {
     Rows(usize),
     // 50
@@ -58,7 +58,7 @@ pub enum InUse {
 }
 
 // What a message changes: the row at a place, which is behind the last one where no row changes.
-#[derive(Drop)]
+#[derive(Clone, Copy)]
 pub struct Change {
     pub at: usize,
     pub row: Row,

@@ -11,7 +11,7 @@ use stock_quotes::Quote;
 use stock_quotes_write::is_legal;
 
 // A row's place, behind the last one where there is no row; whether the row is taken anew; the answer's number where there is none.
-#[derive(Drop)]
+#[derive(Clone, Copy)]
 pub struct Place {
     pub at: usize,
     pub new: bool,

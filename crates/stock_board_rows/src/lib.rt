@@ -15,7 +15,7 @@ const ROWS: usize = 256;
 const LAST_TIME: u64 = 999_999_999_999;
 
 // A search for a stock's row, from the first row on. It ends at the row with the code, or behind the last one.
-#[derive(Drop)]
+#[derive(Clone, Copy)]
 struct Search {
     // the row to look at next, and where the search ends
     at: usize,

@@ -7,7 +7,7 @@ pub mod rules;
 use answers::Answer;
 
 // When trading is resumed.
-#[derive(Drop)]
+#[derive(Clone, Copy)]
 pub enum Resume {
     // still open: 999999
     Open,
@@ -15,7 +15,7 @@ pub enum Resume {
     At(u32),
 }
 
-#[derive(Drop)]
+#[derive(Clone, Copy)]
 pub enum Event {
     // the end of a round, with the number of records in it
     RoundEnd(u32),
@@ -24,7 +24,7 @@ pub enum Event {
 }
 
 // How the record is sent.
-#[derive(Drop)]
+#[derive(Clone, Copy)]
 pub enum Sending {
     // `C`: with all of the day's records, round after round
     Cycle,
@@ -33,7 +33,7 @@ pub enum Sending {
 }
 
 // A halt of the stock with this code (`000000`: of the whole market), or a round's end.
-#[derive(Drop)]
+#[derive(Clone, Copy)]
 pub struct Halt {
     pub seq: u32,
     pub code: [u8; 6],
@@ -42,7 +42,7 @@ pub struct Halt {
 }
 
 // What reading a body finds; the halt is the empty one where the answer is a refusal.
-#[derive(Drop)]
+#[derive(Clone, Copy)]
 pub struct HaltReading {
     pub answer: Answer,
     pub halt: Halt,

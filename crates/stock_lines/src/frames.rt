@@ -9,7 +9,7 @@ use stock_frame::outline::outline;
 use walk::past::past;
 use walk::stretch::noise;
 
-#[derive(Drop)]
+#[derive(Clone, Copy)]
 pub enum Ahead {
     // the header of the next frame, and its place on the line
     Frame(Head, usize),
@@ -18,7 +18,7 @@ pub enum Ahead {
 }
 
 // What a walk meets at a place: a frame, or bytes to go past, 0 where the walk stops.
-#[derive(Drop)]
+#[derive(Clone, Copy)]
 enum Met {
     Whole(Head),
     Past(usize),

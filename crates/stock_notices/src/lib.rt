@@ -5,7 +5,7 @@ ghost use Rattle.stock_notices.specs.Notices.{no_notice, room, five_ruled};
 use answers::Answer;
 
 // A notice of a category with the first `length` bytes of the text; the others are zero.
-#[derive(Drop)]
+#[derive(Clone, Copy)]
 pub struct Notice {
     pub seq: u32,
     pub category: u8,
@@ -14,7 +14,7 @@ pub struct Notice {
 }
 
 // What reading a body finds; the notice is the empty one where the answer is a refusal.
-#[derive(Drop)]
+#[derive(Clone, Copy)]
 pub struct NoticeReading {
     pub answer: Answer,
     pub notice: Notice,

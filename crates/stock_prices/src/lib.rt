@@ -13,7 +13,7 @@ pub const FRAME: usize = 374;
 pub const SLOT: usize = 36;
 
 // A stock's prices and quantity so far; the time is HHMMSS and six digits of fraction, all nines after the close.
-#[derive(Drop)]
+#[derive(Clone, Copy)]
 pub struct Slot {
     pub code: [u8; 6],
     pub opening: Price,
@@ -25,7 +25,7 @@ pub struct Slot {
 }
 
 // The first `count` slots hold stocks; the others have six spaces for a code and zeros elsewhere.
-#[derive(Drop)]
+#[derive(Clone, Copy)]
 pub struct Prices {
     pub seq: u32,
     pub count: u8,
@@ -33,7 +33,7 @@ pub struct Prices {
 }
 
 // What reading a body finds; the prices are the empty ones where the answer is a refusal.
-#[derive(Drop)]
+#[derive(Clone, Copy)]
 pub struct PricesReading {
     pub answer: Answer,
     pub prices: Prices,

@@ -11,7 +11,7 @@ use stock_prices::{SLOT, Slot, no_slot};
 use words::blocks::six_at;
 
 // A slot's prices, the last one with the total.
-#[derive(Drop)]
+#[derive(Clone, Copy)]
 pub(crate) struct Figures {
     pub opening: Price,
     pub highest: Price,
@@ -19,14 +19,14 @@ pub(crate) struct Figures {
     pub pair: Pair,
 }
 
-#[derive(Drop)]
+#[derive(Clone, Copy)]
 pub(crate) enum FiguresField {
     Is(Figures),
     Bad,
 }
 
 // A slot, and whether its time is right; both say nothing where a digit is bad.
-#[derive(Drop)]
+#[derive(Clone, Copy)]
 pub(crate) struct SlotField {
     pub good: bool,
     pub timed: bool,
@@ -34,7 +34,7 @@ pub(crate) struct SlotField {
 }
 
 // All ten, and whether checks 12 and 13 hold of them; where a digit is bad only that is said.
-#[derive(Drop)]
+#[derive(Clone, Copy)]
 pub(crate) struct SlotsField {
     pub good: bool,
     pub timed: bool,

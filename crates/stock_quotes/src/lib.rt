@@ -7,14 +7,14 @@ use amounts::{Pair, Price, Quantity};
 use answers::Answer;
 
 // What a frame says of the levels of both sides: that they are those which it lists, none too; or nothing, only the trade is sent.
-#[derive(Drop)]
+#[derive(Clone, Copy)]
 pub enum Levels {
     Shown,
     NotShown,
 }
 
 // A stock's quote. Its own reveal byte says which of the trade, the bids and the asks are used; the others are zero.
-#[derive(Drop)]
+#[derive(Clone, Copy)]
 pub struct Quote {
     pub seq: u32,
     pub code: [u8; 6],
@@ -33,14 +33,14 @@ pub struct Quote {
 }
 
 // What reading a body finds; the quote is the empty one where the answer is a refusal.
-#[derive(Drop)]
+#[derive(Clone, Copy)]
 pub struct QuoteReading {
     pub answer: Answer,
     pub quote: Quote,
 }
 
 // What a reveal byte shows: how many trades, 0 or 1, how many levels of each side, and whether levels are shown at all.
-#[derive(Drop)]
+#[derive(Clone, Copy)]
 pub struct Reveal {
     pub trades: usize,
     pub bids: usize,

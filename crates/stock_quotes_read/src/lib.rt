@@ -16,14 +16,14 @@ use stock_frame::places::bad_digit;
 use stock_quotes::{Levels, Quote, QuoteReading, Reveal, no_pair};
 
 // A side's pairs, best first, and zeros behind them.
-#[derive(Drop)]
+#[derive(Clone, Copy)]
 struct Side {
     good: bool,
     pairs: [Pair; 5],
 }
 
 // The pairs of a body by their parts.
-#[derive(Drop)]
+#[derive(Clone, Copy)]
 struct Sides {
     good: bool,
     trade: Pair,
@@ -32,7 +32,7 @@ struct Sides {
 }
 
 // The packed fields before a body's pairs: whether their digits are good, and what they hold.
-#[derive(Drop)]
+#[derive(Clone, Copy)]
 struct Fixed {
     good: bool,
     // HHMM and SSffffff

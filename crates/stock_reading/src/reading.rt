@@ -26,7 +26,7 @@ pub const TWELVE: u32 = 11203;
 pub const NINETEEN: u32 = 11901;
 
 // A whole outline: where the body stands on the line, and what the header says.
-#[derive(Drop)]
+#[derive(Clone, Copy)]
 struct Whole {
     start: usize,
     end: usize,
@@ -35,7 +35,7 @@ struct Whole {
     length: usize,
 }
 
-#[derive(Drop)]
+#[derive(Clone, Copy)]
 enum Found {
     At(Whole),
     None(Answer),

@@ -22,7 +22,7 @@ const GIVEN: usize = 131;
 
 // The ledger, and the line so far: whether it gives up, a record and the place of its next number, then a number, if it has a
 // digit.
-#[derive(Drop)]
+#[derive(Clone, Copy)]
 struct State {
     ledger: Ledger,
     gives_up: bool,

@@ -7,7 +7,7 @@ pub(crate) const MOST: usize = 65_536;
 // Text is written when there is this much of it: a large buffer then still has room for 4,096 bytes.
 pub(crate) const MUCH: usize = 61_440;
 
-#[derive(Drop)]
+#[derive(Clone, Copy)]
 pub(crate) enum Input {
     // so many bytes: all of them, or as many as there is room for
     Bytes(usize),

@@ -7,7 +7,7 @@ use answers::Answer;
 use digits::halves::Place;
 
 // A move of a walk, or skipped bytes next to each other with the first one's reason.
-#[derive(Drop)]
+#[derive(Clone, Copy)]
 pub struct Row {
     pub at: u64,
     pub bytes: u64,
@@ -15,14 +15,14 @@ pub struct Row {
 }
 
 // What a walk keeps from the pieces before: its place, and the skipped bytes that no row has told yet, none if there are 0.
-#[derive(Drop)]
+#[derive(Clone, Copy)]
 pub struct Kept {
     pub at: u64,
     pub skipped: Row,
 }
 
 // What one move more gives.
-#[derive(Drop)]
+#[derive(Clone, Copy)]
 pub enum Told {
     // no row yet
     Nothing(Kept),
@@ -35,7 +35,7 @@ pub enum Told {
 }
 
 // What some moves give next, with the place on the line behind them.
-#[derive(Drop)]
+#[derive(Clone, Copy)]
 pub enum Next {
     OneRow(Row, Kept, usize),
     TwoRows(Row, Row, Kept, usize),

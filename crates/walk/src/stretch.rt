@@ -5,7 +5,7 @@ ghost use Rattle.walk.specs.Noise.{noise_length};
 use answers::Answer;
 
 // What a walk meets at a place: an answer, and the bytes that it moves past, 0 where the walk stops.
-#[derive(Drop)]
+#[derive(Clone, Copy)]
 pub struct Stretch {
     pub answer: Answer,
     pub bytes: usize,

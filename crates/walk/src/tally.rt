@@ -4,7 +4,7 @@ ghost use Rattle.walk.specs.Tally.{figures_only, no_bytes, has_room, moved_on, c
 
 use answers::Answer;
 
-#[derive(Drop)]
+#[derive(Clone, Copy)]
 pub struct Tally {
     // bytes in accepted frames
     pub accepted: u64,
@@ -16,7 +16,7 @@ pub struct Tally {
 }
 
 // A tally behind a walk: 0 and moved on, or 16 and as it came.
-#[derive(Drop)]
+#[derive(Clone, Copy)]
 pub struct Tallied {
     pub tally: Tally,
     pub answer: u8,

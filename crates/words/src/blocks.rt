@@ -6,7 +6,7 @@ ghost use Rattle.words.specs.Blocks.{block_of, no_block, block_at};
 use crate::loads::{eight, four, two};
 
 // What some bytes hold: whether every half is a digit, and the numbers that the first bytes and the last four give.
-#[derive(Drop)]
+#[derive(Clone, Copy)]
 pub struct Block {
     pub good: bool,
     pub first: u32,
