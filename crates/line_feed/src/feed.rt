@@ -2,8 +2,12 @@
 ghost use Rattle.std.specs.Prelude.{◌≡◌};
 ghost use Rattle.line_feed.specs.Beginning.{fresh_feed};
 
-use libc::STDERR_FILENO;
 use lines::exchanges::Exchange;
+use std::io::Write;
+use std::process::ExitCode;
+
+// The bytes of a program's input buffer, and of its output buffer.
+pub const LARGE: usize = 65_536;
 
 // Standard input could not be read.
 pub const READ: u8 = 1;
@@ -56,33 +60,35 @@ impl Feed {
 }
 
 // What failed, in words.
-fn say(failure: u8) {
+fn words_of(failure: u8) -> &'static [u8] {
     if failure == READ {
-        io::write_all(STDERR_FILENO, b"cannot read standard input");
-        return;
+        return b"cannot read standard input";
     }
     if failure == WRITE {
-        io::write_all(STDERR_FILENO, b"cannot write standard output");
-        return;
+        return b"cannot write standard output";
     }
     if failure == ARGUMENT {
-        io::write_all(STDERR_FILENO, b"the only argument is derivatives-2015");
-        return;
+        return b"the only argument is derivatives-2015";
     }
     if failure == FULL {
-        io::write_all(STDERR_FILENO, b"answer 16: the line is too long to count");
-        return;
+        return b"answer 16: the line is too long to count";
     }
-    io::write_all(STDERR_FILENO, b"a text has no room in the buffer");
+    b"a text has no room in the buffer"
 }
 
-// Says on standard error what failed in a program, if anything did.
-pub fn tell(program: &[u8], failure: u8) {
+// Says a text on standard error. What cannot be said is still seen by the status.
+fn say<W: Write>(err: &mut W, text: &[u8]) {
+    let _ = err.write_all(text);
+}
+
+// Says on standard error what failed in a program, if anything did, and answers the program's exit status: 1 if anything did.
+pub fn tell<W: Write>(err: &mut W, program: &[u8], failure: u8) -> ExitCode {
     if failure == 0 {
-        return;
+        return ExitCode::SUCCESS;
     }
-    io::write_all(STDERR_FILENO, program);
-    io::write_all(STDERR_FILENO, b": ");
-    say(failure);
-    io::write_all(STDERR_FILENO, b"\n");
+    say(err, program);
+    say(err, b": ");
+    say(err, words_of(failure));
+    say(err, b"\n");
+    ExitCode::FAILURE
 }
