@@ -76,12 +76,13 @@ fn words_of(failure: u8) -> &'static [u8] {
     b"a text has no room in the buffer"
 }
 
-// Says a text on standard error. What cannot be said is still seen by the status.
-fn say<W: Write>(err: &mut W, text: &[u8]) {
+// Says a text on standard error, and answers the exit status of a program that had something to say there, said or not.
+pub fn say<W: Write>(err: &mut W, text: &[u8]) -> ExitCode {
     let _ = err.write_all(text);
+    ExitCode::FAILURE
 }
 
-// Says on standard error what failed in a program, if anything did, and answers the program's exit status: 1 if anything did.
+// Says on standard error what failed in a program, if anything did, and answers the program's exit status.
 pub fn tell<W: Write>(err: &mut W, program: &[u8], failure: u8) -> ExitCode {
     if failure == 0 {
         return ExitCode::SUCCESS;
@@ -89,6 +90,5 @@ pub fn tell<W: Write>(err: &mut W, program: &[u8], failure: u8) -> ExitCode {
     say(err, program);
     say(err, b": ");
     say(err, words_of(failure));
-    say(err, b"\n");
-    ExitCode::FAILURE
+    say(err, b"\n")
 }
