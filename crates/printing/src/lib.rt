@@ -1,3 +1,5 @@
+#![tactic(auto)]
+
 // Text put into a lent buffer. Each call answers the place behind what it put; what finds no room is left out.
 pub mod moving;
 
