@@ -1,4 +1,4 @@
-use Rattle.std.proofs.Common.{◌≡◌, ℕ, ◌+◌, ◌<◌, length, take, arith, subst}
+use Rattle.std.proofs.Common.{◌≡◌, ℕ, ◌+◌, take, arith, subst}
 use Rattle.printing.specs.Text.{Puts}
 use Rattle.printing.proofs.TextLaws.{puts_none, puts-stored, puts_whole}
 use Rattle.printing.proofs.put_whole.Goals as goal

@@ -9,13 +9,13 @@ loop-i-init c = spelt-begins c.args.n c.args.digits.now c.requires
 pub loop-i-preserved : goal.loop-i-preserved
 loop-i-preserved c =
     let l = c.loop-i in
-    spelt-goes-on c.args.n l.i l.rest l.digits l.invariant c.if-rest-le9.false c.loop-i-test.true
+    spelt-goes-on c.args.n l.i l.rest l.digits l.invariant c.if-rest-le-ONE_DIGIT.false c.loop-i-test.true
 
-pub returns-then-rest-le9 : goal.returns-then-rest-le9
-returns-then-rest-le9 c =
+pub returns-then-rest-le-ONE_DIGIT : goal.returns-then-rest-le-ONE_DIGIT
+returns-then-rest-le-ONE_DIGIT c =
     let l = c.loop-i in
     let s = l.invariant in
-    (omega (arith, length-set l.digits l.i (48 + l.rest % 10), s.0), omega (arith, s.1), spelt-ends c.args.n l.i l.rest l.digits s (λ h k. omega (arith, h, c.if-rest-le9.true)))
+    (omega (arith, length-set l.digits l.i (48 + l.rest % 10), s.0), omega (arith, s.1), spelt-ends c.args.n l.i l.rest l.digits s (λ h k. omega (arith, h, c.if-rest-le-ONE_DIGIT.true)))
 
 pub returns : goal.returns
 returns c =
