@@ -1,4 +1,6 @@
 // Prices, quantities and index values, kept apart by their types.
+#![tactic(auto)]
+
 ghost use Rattle.std.specs.Prelude.{◌≡◌};
 ghost use Rattle.amounts.specs.Amounts.{price_at, quantity_at, pair_at};
 

@@ -1,4 +1,6 @@
 // What reading and writing answer.
+#![tactic(auto)]
+
 ghost use Rattle.std.specs.Prelude.{◌≡◌};
 ghost use Rattle.answers.specs.Answers.{answer_number, answer_length, answer_place};
 

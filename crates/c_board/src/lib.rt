@@ -1,4 +1,6 @@
 // Calls for C and Rust: the board of last quotes, lent as its heads and cells. A row is nine bytes, a time and 23 amounts.
+#![tactic(auto)]
+
 ghost use Rattle.std.specs.Prelude.{◌≡◌};
 ghost use Rattle.stock_board_flat.specs.Calls.{taken_answer, taken_flat, cleared_answer, cleared_flat, asked_flat, row_at_flat, in_use_flat};
 ghost use Rattle.stock_board_flat.specs.Steps.{flat};

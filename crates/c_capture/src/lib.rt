@@ -1,4 +1,6 @@
 // Calls for C and Rust: the capture, lent as its 65,536 bytes.
+#![tactic(auto)]
+
 ghost use Rattle.std.specs.Prelude.{◌≡◌, ◌≤◌};
 ghost use Rattle.capture.specs.Calls.{cleared_of, cleared_bytes, held_of, part_of};
 ghost use Rattle.capture_append.specs.Stores.{stores};

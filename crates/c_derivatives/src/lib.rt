@@ -1,4 +1,6 @@
 // Calls for C and Rust: the answer at a place of a line of the derivatives exchange, and such a line walked.
+#![tactic(auto)]
+
 ghost use Rattle.std.specs.Prelude.{◌≡◌, drop};
 ghost use Rattle.derivatives_reading.specs.Reading.{answer_of};
 ghost use Rattle.c_outcomes.specs.Outcomes.{read_outcome};

@@ -1,4 +1,6 @@
 // Calls for C and Rust: packed digits by the table.
+#![tactic(auto)]
+
 ghost use Rattle.std.specs.Prelude.{◌≡◌};
 ghost use Rattle.digits.specs.Table.{entry_of, digit_table};
 

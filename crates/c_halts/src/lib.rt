@@ -1,4 +1,6 @@
 // Calls for C and Rust: halts read and written. A code, and an event as four numbers.
+#![tactic(auto)]
+
 ghost use Rattle.std.specs.Prelude.{◌≡◌, drop};
 ghost use Rattle.stock_reading.specs.Reading.{halt_at};
 ghost use Rattle.c_outcomes.specs.Outcomes.{read_outcome};

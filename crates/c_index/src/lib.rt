@@ -1,4 +1,6 @@
 // Calls for C and Rust: index values of the derivatives exchange read and written. A contract, four bytes and three numbers.
+#![tactic(auto)]
+
 ghost use Rattle.std.specs.Prelude.{◌≡◌, drop};
 ghost use Rattle.derivatives_reading.specs.Reading.{index_at};
 ghost use Rattle.c_outcomes.specs.Outcomes.{read_outcome};

@@ -1,4 +1,6 @@
 // Calls for C and Rust: the ledger, lent as its 129 ends, its floor and how many numbers were given up.
+#![tactic(auto)]
+
 ghost use Rattle.std.specs.Prelude.{◌≡◌};
 ghost use Rattle.ledger.specs.Calls.{fresh, ledger_of, arrived_of, gave_up_of, highest_of, heard_of, missing_of, runs_of, floor_of, given_up_of, run_of};
 ghost use Rattle.c_ledger.specs.Outcomes.{arrival_outcome, figure_outcome, run_outcome};

@@ -1,4 +1,6 @@
 // Calls for C and Rust: notices read and written. A category and a text.
+#![tactic(auto)]
+
 ghost use Rattle.std.specs.Prelude.{◌≡◌, drop};
 ghost use Rattle.stock_reading.specs.Reading.{notice_at};
 ghost use Rattle.stock_notices.specs.Notices.{five_codec};

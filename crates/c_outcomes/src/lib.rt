@@ -1,4 +1,6 @@
 // An answer and the figures beside it in one number of 64 bits, for programs in other languages.
+#![tactic(auto)]
+
 ghost use Rattle.std.specs.Prelude.{◌≡◌};
 ghost use Rattle.c_outcomes.specs.Outcomes.{outcome, place_number, read_outcome, past_outcome, write_outcome};
 ghost use Rattle.c_outcomes.specs.Lent.{is_of};

@@ -1,4 +1,6 @@
 // Calls for C and Rust: opening and closing prices read and written. A count, and the codes, amounts and times of ten slots.
+#![tactic(auto)]
+
 ghost use Rattle.std.specs.Prelude.{◌≡◌, drop};
 ghost use Rattle.stock_reading.specs.Reading.{prices_at};
 ghost use Rattle.stock_prices.specs.Prices.{twelve_codec};

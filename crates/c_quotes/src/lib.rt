@@ -1,4 +1,6 @@
 // Calls for C and Rust: quotes read and written. Nine bytes, a time and 23 amounts.
+#![tactic(auto)]
+
 ghost use Rattle.std.specs.Prelude.{◌≡◌, drop};
 ghost use Rattle.stock_reading.specs.Reading.{quote_at};
 ghost use Rattle.stock_quotes.specs.Quotes.{six_codec};

@@ -1,5 +1,7 @@
 // Calls for C and Rust: the answer at a place of a line, and a line walked. The messages are read in a crate of their own, so
 // that no work on them is done here.
+#![tactic(auto)]
+
 ghost use Rattle.std.specs.Prelude.{◌≡◌, drop};
 ghost use Rattle.stock_reading.specs.Reading.{answer_of};
 ghost use Rattle.c_outcomes.specs.Outcomes.{read_outcome};

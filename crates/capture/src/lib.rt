@@ -1,5 +1,7 @@
 // A capture of 128 blocks in lent memory, kept so that a power loss during an append costs no finished block, and half of one is never
 // read: it is cleared, judged and read. It knows nothing of what the payloads are.
+#![tactic(auto)]
+
 mod blocks;
 pub mod reading;
 mod searches;

@@ -1,4 +1,6 @@
 // Appending to a capture, a byte store a turn, so that a power loss after any of them leaves every block that was finished before.
+#![tactic(auto)]
+
 ghost use Rattle.std.specs.Prelude.{◌≡◌};
 ghost use Rattle.capture_append.specs.Stores.{stores};
 ghost use Rattle.capture_append.specs.Appending.{taken_of, taken_bytes};

@@ -1,4 +1,6 @@
 // Rules that several formats share: a code's bytes, and a time of day.
+#![tactic(auto)]
+
 ghost use Rattle.std.specs.Prelude.{◌≡◌};
 ghost use Rattle.codes_times.specs.Times.{time_of_day, code_at, code_right, zero_code};
 

@@ -1,4 +1,6 @@
 // What a reading may say of the bytes from a place on a line of the derivatives exchange.
+#![tactic(auto)]
+
 ghost use Rattle.std.specs.Prelude.{◌≡◌, drop};
 ghost use Rattle.derivatives_reading.specs.Reading.{answer_of, index_at};
 

@@ -1,4 +1,6 @@
 // Fletcher-16 of bytes. The sums are reduced once for many bytes: until then they only grow.
+#![tactic(auto)]
+
 ghost use Rattle.std.specs.Prelude.{◌≡◌, ◌+◌, ◌*◌, ◌%◌, ◌≤◌, min, length};
 ghost use Rattle.fletcher.specs.Fletcher.{sums_of, with_bytes, fletcher, between};
 

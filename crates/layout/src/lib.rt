@@ -1,4 +1,6 @@
 // Bytes put into a lent buffer as they are, and the first bad digit of bytes by their layout.
+#![tactic(auto)]
+
 ghost use Rattle.std.specs.Prelude.{◌≡◌};
 ghost use Rattle.layout.specs.Bytes.{bytes_over};
 

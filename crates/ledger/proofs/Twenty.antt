@@ -116,7 +116,9 @@ module _ (floor given k f : ℕ) (rest : List ℕ) (long : length rest ≡ 127) 
   gone-more one q =
       let in-front : turned (suc k) (rest ++ (0 ∷ 0 ∷ [])) ≡ suc k ∷ (rest ++ (0 ∷ 0 ∷ [])) = turn-front f (suc k) (rest ++ (0 ∷ 0 ∷ [])) gone-falls (omega arith) (omega arith) in
       let below : turned k (rest ++ (0 ∷ 0 ∷ [])) ≡ k ∷ (rest ++ (0 ∷ 0 ∷ [])) = turn-front f k (rest ++ (0 ∷ 0 ∷ [])) gone-falls (omega arith) (omega arith) in
-      rw (in-front, back, lt-ltb k (suc k) (omega arith), below, q) refl
+      let first : with_number (suc k) (rest ++ (0 ∷ 0 ∷ [])) ≡ turned k (turned (suc k) (rest ++ (0 ∷ 0 ∷ []))) =
+      ap (λ (x : ℕ). turned x (turned (suc k) (rest ++ (0 ∷ 0 ∷ [])))) back in
+      first ∙ rw (in-front, lt-ltb k (suc k) (omega arith), below, q) refl
 
   reached-gone : 1 ≤ f → f ≡ k → Reached (ledger_of (rest ++ (0 ∷ 0 ∷ [])) floor given) → Reached (ledger_of (suc k ∷ f ∷ rest) floor given)
   reached-gone one q there =
@@ -161,7 +163,10 @@ module _ (floor given k f : ℕ) (rest : List ℕ) (long : length rest ≡ 127) 
   reached-low apart there =
       let falls : falling (suc k) (k ∷ f ∷ rest) ≡ true = low-falls apart in
       let in-front : turned (suc k) (k ∷ f ∷ rest) ≡ suc k ∷ k ∷ f ∷ rest = turn-front (suc k) (suc k) (k ∷ f ∷ rest) falls (omega arith) (omega arith) in
-      let more : with_number (suc k) (k ∷ f ∷ rest) ≡ suc k ∷ f ∷ rest = rw (in-front, back, lt-ltb k (suc k) (omega arith), turn-out k (f ∷ rest)) refl in
+      let first : with_number (suc k) (k ∷ f ∷ rest) ≡ turned k (turned (suc k) (k ∷ f ∷ rest)) =
+      ap (λ (x : ℕ). turned x (turned (suc k) (k ∷ f ∷ rest))) back in
+      let more : with_number (suc k) (k ∷ f ∷ rest) ≡ suc k ∷ f ∷ rest =
+      first ∙ rw (in-front, lt-ltb k (suc k) (omega arith), turn-out k (f ∷ rest)) refl in
       reached-by floor given (suc k ∷ f ∷ rest) (k ∷ f ∷ rest) (suc k) (low-good apart) above top
       (from-none (suc k) (suc k) (k ∷ f ∷ rest) falls (omega arith) (omega arith)) (rw more few) (rw more (fitted-same (suc k ∷ f ∷ rest) (omega arith))) there
 

@@ -1,4 +1,6 @@
 // The ledger of one format, line and day: the record that a desk lends, and the answers to its calls.
+#![tactic(auto)]
+
 ghost use Rattle.std.specs.Prelude.{◌≡◌};
 ghost use Rattle.ledger.specs.Calls.{fresh};
 

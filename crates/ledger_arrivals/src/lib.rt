@@ -1,4 +1,6 @@
 // The arrival of a number at a ledger. A record that no series of arrivals and give-ups leaves is answered 20 first.
+#![tactic(auto)]
+
 ghost use Rattle.std.specs.Prelude.{◌≡◌, ◌||◌, ltb, eqb};
 ghost use Rattle.ledger.specs.Calls.{most_number, ledger_of, arrived_of, lent_arrived_of};
 

@@ -1,4 +1,6 @@
 // Looking over what a record holds: its ends, lent as a list of any length, and the floor beside them.
+#![tactic(auto)]
+
 ghost use Rattle.std.specs.Prelude.{◌≡◌, cond, ◌-◌, ◌≤◌, leb, length, drop};
 ghost use Rattle.ledger.specs.Ends.{places, ends_from, settled_in, missing_in, floor_fits};
 ghost use Rattle.ledger_ends.specs.Looking.{Reach, InOrder, found_in, seen_of};

@@ -1,4 +1,6 @@
 // The figures of a ledger and its missing runs. Every call first answers 20 to a record that no series leaves.
+#![tactic(auto)]
+
 ghost use Rattle.std.specs.Prelude.{◌≡◌};
 ghost use Rattle.ledger.specs.Calls.{figure_by, highest_of, heard_of, missing_of, runs_of, floor_of, given_up_of, run_of};
 

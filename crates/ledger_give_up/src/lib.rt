@@ -1,4 +1,6 @@
 // Giving up a ledger's lowest missing run. A record that no series of arrivals and give-ups leaves is answered 20 first.
+#![tactic(auto)]
+
 ghost use Rattle.std.specs.Prelude.{◌≡◌};
 ghost use Rattle.ledger.specs.Calls.{ledger_of, gave_up_of, lent_gave_up_of};
 

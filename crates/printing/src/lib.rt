@@ -1,6 +1,6 @@
+// Text put into a lent buffer. Each call answers the place behind what it put; what finds no room is left out.
 #![tactic(auto)]
 
-// Text put into a lent buffer. Each call answers the place behind what it put; what finds no room is left out.
 pub mod moving;
 
 ghost use Rattle.std.specs.Prelude.{◌≡◌, [], ◌∷◌, ◌+◌, ◌≤◌, length, drop};

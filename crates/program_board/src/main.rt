@@ -1,6 +1,8 @@
 // Reads standard input as a closed line and prints the last quotes and trades of the first 256 stocks that come, a JSON object a
 // line; the market has more. The rows of a board, in the order in which their stocks first came, and behind them how many messages
 // found no row. Input of any length, in constant memory.
+#![tactic(auto)]
+
 mod messages;
 mod rows;
 

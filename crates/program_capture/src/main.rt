@@ -1,6 +1,8 @@
 // Keeps up to 64,512 bytes of standard input in a FILE that survives a power loss (append FILE), prints what such a file holds
 // (show FILE) or whether it is sound (verify FILE). capture --help says what the operating system has to keep for that. What is
 // found after any of an append's stores, and after all, is proved over memory (laws_capture); that a file is written so is not.
+#![tactic(auto)]
+
 mod appending;
 mod asked;
 mod files;

@@ -1,6 +1,8 @@
 // Reads standard input as a closed line and prints which numbers of format six are missing, a JSON object a line; with give-up
 // behind its name it gives up the lowest missing run where there would be a 65th. Each missing run, lowest first, each answer
 // that refused arrivals, and the figures. Input of any length, in constant memory.
+#![tactic(auto)]
+
 mod arrivals;
 mod asked;
 mod report;

@@ -1,6 +1,8 @@
 // Reads standard input as a closed line and prints its listing, what became of every byte; with derivatives-2015 behind its name it reads a
 // line of the derivatives exchange. A row for each frame, one for each run of skipped bytes, and the total of accepted, refused and
 // skipped bytes. Input of any length, in constant memory.
+#![tactic(auto)]
+
 mod rows;
 
 use line_feed::asked::{Asked, asked_for};

@@ -1,6 +1,8 @@
 // Reads standard input as a closed line and prints the message of each accepted frame, a JSON object a line; with derivatives-2015
 // behind its name it reads a line of the derivatives exchange. Bids and asks are null where a quote does not show its levels. Input of
 // any length, in constant memory.
+#![tactic(auto)]
+
 mod index;
 mod objects;
 

@@ -1,6 +1,8 @@
 // Reads standard input as a closed line and prints why each refused frame and each run of skipped bytes is no message, a JSON
 // object a line; with derivatives-2015 behind its name it reads a line of the derivatives exchange. Input of any length, in constant
 // memory.
+#![tactic(auto)]
+
 mod fields;
 mod index;
 mod objects;

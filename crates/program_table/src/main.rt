@@ -1,4 +1,6 @@
 // Reads nothing and prints the number of the two packed digits of each byte, 16 rows of 16, with 255 where one of them is bad.
+#![tactic(auto)]
+
 mod rows;
 
 use rows::put_table;

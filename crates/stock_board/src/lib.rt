@@ -1,4 +1,6 @@
 // The board of last quotes, one row to a stock: what a row holds, what a message leaves of it, and what the board's calls answer.
+#![tactic(auto)]
+
 ghost use Rattle.std.specs.Prelude.{◌≡◌};
 ghost use Rattle.stock_board.specs.Rows.{free_row, last_trade, side_after, row_after};
 

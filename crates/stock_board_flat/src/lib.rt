@@ -1,5 +1,7 @@
 // The board as two lists of numbers that a caller lends, heads and cells, so that the codes of all rows stand side by side:
 // messages taken, rows asked for, without a copy of the board. Every call answers 50 first if a list has another length.
+#![tactic(auto)]
+
 ghost use Rattle.std.specs.Prelude.{◌≡◌, cond, ltb};
 ghost use Rattle.stock_board.specs.declared.BoardAnswer.TheVariants.{Done, Refused};
 ghost use Rattle.stock_board_flat.specs.Calls.{taken_answer, taken_flat, cleared_answer, cleared_flat, asked_flat, row_at_flat, in_use_flat};

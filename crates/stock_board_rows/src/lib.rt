@@ -1,4 +1,6 @@
 // The board of last quotes as a lent slice of 256 rows: calls that find and change one row, ask for one, and clear them all.
+#![tactic(auto)]
+
 ghost use Rattle.std.specs.Prelude.{◌≡◌, ◌<◌};
 ghost use Rattle.stock_board.specs.Board.{same_code, last_of_day, unchanged, change_by, change_of, changed, stock_code, asked_of, clear_answer, cleared};
 ghost use Rattle.stock_board_rows.specs.Steps.{started, free_met, looked, not_asked, answered, clearing_of};

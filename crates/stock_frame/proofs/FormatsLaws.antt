@@ -39,6 +39,7 @@ pub record Named (Fs : List Format) (F : Format) : Type 0 where
   pub version-fits : F.version < 100
 
 pub listed-named : (Fs : List Format) (F : Format) → apart Fs ≡ true → Listed F Fs → Named Fs F
+listed-named [] F a l = elim l [ ]
 listed-named (G ∷ Fs) F a (here e) =
     let tests = apart_from G Fs (apart Fs) in
     let same = eq-eqb F.number G.number (ap (λ (H : Format). H.number) e) in

@@ -1,4 +1,6 @@
 // Format nineteen: trading halts.
+#![tactic(auto)]
+
 ghost use Rattle.std.specs.Prelude.{◌≡◌};
 ghost use Rattle.stock_halts.specs.Halts.{no_halt};
 

@@ -1,4 +1,6 @@
 // Halts read out of a body.
+#![tactic(auto)]
+
 ghost use Rattle.std.specs.Prelude.{◌≡◌};
 ghost use Rattle.digits.specs.declared.halves.Place.TheVariants.{None};
 ghost use Rattle.answers.specs.declared.Answer.TheVariants.{Refused};

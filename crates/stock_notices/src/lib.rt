@@ -1,4 +1,6 @@
 // Format five: notices.
+#![tactic(auto)]
+
 ghost use Rattle.std.specs.Prelude.{◌≡◌, [], ◌∷◌, replicate};
 ghost use Rattle.stock_notices.specs.Notices.{no_notice, room, five_ruled};
 

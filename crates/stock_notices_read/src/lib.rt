@@ -1,4 +1,6 @@
 // Notices read out of a body.
+#![tactic(auto)]
+
 ghost use Rattle.std.specs.Prelude.{◌+◌, ◌^◌, ◌<◌, ◌≡◌, replicate, [], ◌∷◌};
 ghost use Rattle.layout.specs.Cells.{digits};
 ghost use Rattle.stock_frame.specs.Format.{digit_answer};

@@ -1,4 +1,6 @@
 // Notices written as a frame.
+#![tactic(auto)]
+
 ghost use Rattle.std.specs.Prelude.{◌≡◌, drop, eqb};
 ghost use Rattle.codes_times.specs.Times.{every};
 ghost use Rattle.stock_frame.specs.Codec.{legal, frame_of};

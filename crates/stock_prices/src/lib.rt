@@ -1,4 +1,6 @@
 // Format twelve: opening and closing prices.
+#![tactic(auto)]
+
 ghost use Rattle.std.specs.Prelude.{◌≡◌};
 ghost use Rattle.stock_prices.specs.Prices.{no_slot, no_prices};
 

@@ -1,4 +1,6 @@
 // Prices read out of a body.
+#![tactic(auto)]
+
 ghost use Rattle.std.specs.Prelude.{◌≡◌};
 ghost use Rattle.stock_frame.specs.Format.{digit_answer};
 ghost use Rattle.stock_prices.specs.Prices.{twelve_cells, prices_reading};

@@ -1,4 +1,6 @@
 // Prices written as a frame.
+#![tactic(auto)]
+
 ghost use Rattle.std.specs.Prelude.{◌≡◌};
 ghost use Rattle.stock_frame.specs.Codec.{legal, frame_of};
 ghost use Rattle.stock_frame.specs.Writing.{write_answer, written_over};

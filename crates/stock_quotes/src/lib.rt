@@ -1,4 +1,6 @@
 // Format six, live quotes: the message, what its reveal byte shows, and the rules that reading and writing share.
+#![tactic(auto)]
+
 ghost use Rattle.std.specs.Prelude.{◌≡◌, ◌+◌, ◌*◌};
 ghost use Rattle.stock_quotes.specs.Reveal.{levels_of, levels_bit, revealed, levels_right};
 ghost use Rattle.stock_quotes.specs.Quotes.{body_length, quote_timed, no_pair, no_quote};

@@ -1,4 +1,6 @@
 // A quote as nine bytes, a time and 23 amounts, and back: the form in which other languages take it and lists of numbers keep it.
+#![tactic(auto)]
+
 ghost use Rattle.std.specs.Prelude.{◌≡◌, ◌<◌, get_or};
 ghost use Rattle.stock_quotes_numbers.specs.Numbers.{quote_bytes, quote_amounts, pair_at, quote_from};
 

@@ -1,4 +1,6 @@
 // Reading the body of a format six frame.
+#![tactic(auto)]
+
 ghost use Rattle.std.specs.Prelude.{◌≡◌, true, ◌+◌, ◌*◌, ◌≤◌, length, drop};
 ghost use Rattle.layout.specs.Cells.{good_cells};
 ghost use Rattle.stock_frame.specs.Format.{digit_answer};

@@ -2,6 +2,8 @@
 // gives the lowest run up. At an empty line and at the end stands what the ledger tells, and it is cleared. Numbers with spaces
 // between are the ends of a record of their own, which is lent to every call; behind a slash stand its floor and how many numbers
 // were given up. tests/numbers/make.py makes the input.
+#![tactic(auto)]
+
 mod lines;
 mod streams;
 

@@ -1,5 +1,7 @@
 // Reads frames, each behind two bytes of its length, and prints a line for each: its message, or the answer that refuses it.
 // The input is the exchange's own worked examples, which tests/worked/make.py makes, or another of 65,536 bytes at most.
+#![tactic(auto)]
+
 ghost use Rattle.std.specs.Prelude.{◌≤◌};
 
 mod forms;

@@ -1,0 +1,16 @@
+-- `trivsome_capture_append` meets its contract.
+use mathlib.Core.Path.{ap, ◌∙◌}
+use native.Mathlib.Omega.{arith}
+use Rattle.c_capture.specs.Outcomes.{taken_outcome}
+use Rattle.c_capture.proofs.RangeLaws.{append-fits}
+use Rattle.c_capture.proofs.trivsome_capture_append.Goals as goal
+
+pub taken_outcome-requires : goal.taken_outcome-requires
+taken_outcome-requires c =
+    let a = c.args in
+    omega (arith, ap taken_outcome c.append.ensures.value, append-fits a.capture.now a.payload.now)
+
+pub returns : goal.returns
+returns c =
+    let e = (c.append.ensures.value, c.append.ensures.capture_after) in
+    record { value = c.taken_outcome.ensures ∙ ap taken_outcome e.0; capture_after = e.1 }

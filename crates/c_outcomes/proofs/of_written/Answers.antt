@@ -1,0 +1,7 @@
+-- `of_written` meets its contract, case by case.
+use mathlib.Core.Path.{sym, ap, ◌∙◌}
+use Rattle.c_outcomes.specs.Outcomes.{write_outcome}
+use Rattle.c_outcomes.proofs.of_written.Goals as goal
+
+pub returns-in-Done : goal.returns-in-Done
+returns-in-Done c = c.packed.ensures ∙ ap write_outcome (sym c.in-Done.is)

@@ -1,0 +1,7 @@
+-- `Row::after` meets its contract.
+use Rattle.stock_board.specs.Rows.{row_after}
+use Rattle.stock_board.proofs.Row.after.Goals as goal
+
+pub returns : goal.returns
+unfolding row_after
+returns c = rw (c.after-trade.ensures, c.side_after-bids.ensures, c.side_after-asks.ensures)

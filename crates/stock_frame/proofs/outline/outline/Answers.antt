@@ -1,0 +1,40 @@
+-- `outline::outline` meets its contract: each check that fails answers; the others are those of the frame's own bytes.
+use native.Mathlib.Omega.{arith}
+use mathlib.Core.Path.{◌∙◌}
+use Rattle.stock_frame.proofs.OutlineSteps.{line-none, line_first, line-three, line-length, line-whole, line-part, line-own}
+use Rattle.stock_frame.proofs.outline.outline.Goals as goal
+
+pub returns-then-line-at : goal.returns-then-line-at
+returns-then-line-at c =
+    let a = c.args in
+    line-none a.line.now a.at (omega arith)
+
+pub returns-then-line-at-ne27 : goal.returns-then-line-at-ne27
+returns-then-line-at-ne27 c =
+    let a = c.args in
+    line_first a.line.now a.at (omega arith) c.if-line-at-ne27.true
+
+pub returns-then-left-lt3 : goal.returns-then-left-lt3
+returns-then-left-lt3 c =
+    let a = c.args in
+    line-three a.line.now a.at (omega arith) c.if-line-at-ne27.false (omega arith)
+
+pub returns-then-n-eq0 : goal.returns-then-n-eq0
+returns-then-n-eq0 c =
+    let a = c.args in
+    line-length a.line.now a.at (omega arith) c.if-line-at-ne27.false (omega arith) c.length_in-n.result c.length_in-n.ensures c.if-n-eq0.true c.length_place-place.result c.length_place-place.ensures
+
+pub returns-then-left-n : goal.returns-then-left-n
+returns-then-left-n c =
+    let a = c.args in
+    line-whole a.line.now a.at (omega arith) c.if-line-at-ne27.false (omega arith) c.length_in-n.result c.length_in-n.ensures c.if-n-eq0.false (omega arith)
+
+pub own_outline-requires : goal.own_outline-requires
+own_outline-requires c =
+    let a = c.args in
+    line-part a.line.now a.at (omega arith) c.if-line-at-ne27.false (omega arith) c.length_in-n.result c.length_in-n.ensures c.if-n-eq0.false (omega arith)
+
+pub returns : goal.returns
+returns c =
+    let a = c.args in
+    c.own_outline.ensures ∙ line-own a.line.now a.at (omega arith) c.if-line-at-ne27.false (omega arith) c.length_in-n.result c.length_in-n.ensures c.if-n-eq0.false (omega arith)
