@@ -12,5 +12,4 @@ taken_outcome-requires c =
 
 pub returns : goal.returns
 returns c =
-    let e = (c.append_cut.ensures.value, c.append_cut.ensures.capture_after) in
-    record { value = c.taken_outcome.ensures ∙ ap taken_outcome e.0; capture_after = e.1 }
+    record { value = c.taken_outcome.ensures ∙ ap taken_outcome c.append_cut.ensures.value; capture_after = c.append_cut.ensures.capture_after }

@@ -5,10 +5,8 @@ use Rattle.c_capture.proofs.trivsome_capture_clear.Goals as goal
 
 pub returns-in-Done : goal.returns-in-Done
 returns-in-Done c =
-    let e = (c.clear-cleared.ensures.value, c.clear-cleared.ensures.capture_after) in
-    record { value = ap cleared_outcome (sym c.in-Done.is ∙ e.0); capture_after = e.1 }
+    record { value = ap cleared_outcome (sym c.in-Done.is ∙ c.clear-cleared.ensures.value); capture_after = c.clear-cleared.ensures.capture_after }
 
 pub returns-in-Refused : goal.returns-in-Refused
 returns-in-Refused c =
-    let e = (c.clear-cleared.ensures.value, c.clear-cleared.ensures.capture_after) in
-    record { value = ap cleared_outcome (sym c.in-Refused.is ∙ e.0); capture_after = e.1 }
+    record { value = ap cleared_outcome (sym c.in-Refused.is ∙ c.clear-cleared.ensures.value); capture_after = c.clear-cleared.ensures.capture_after }

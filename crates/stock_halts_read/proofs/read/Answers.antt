@@ -33,7 +33,7 @@ overflow_mul-h c =
     let long : length c.args.body.now ≡ 13 = c.if-n-ne13.false in
     let inside : 6 + 6 ≤ length c.args.body.now = omega (arith, long) in
     let times-read : c.six_at-times.result ≡ block_at 6 2 c.args.body.now 6 = c.six_at-times.ensures in
-    let times-good : c.six_at-times.result.well-formed ≡ true = not-false _ c.if-not-times.false in
+    let times-good : c.six_at-times.result.good ≡ true = not-false _ c.if-not-times.false in
     omega (arith, first_small c.args.body.now 6 inside c.six_at-times.result times-read times-good)
 
 pub overflow_add-h : goal.overflow_add-h
@@ -41,7 +41,7 @@ overflow_add-h c =
     let long : length c.args.body.now ≡ 13 = c.if-n-ne13.false in
     let inside : 6 + 6 ≤ length c.args.body.now = omega (arith, long) in
     let times-read : c.six_at-times.result ≡ block_at 6 2 c.args.body.now 6 = c.six_at-times.ensures in
-    let times-good : c.six_at-times.result.well-formed ≡ true = not-false _ c.if-not-times.false in
+    let times-good : c.six_at-times.result.good ≡ true = not-false _ c.if-not-times.false in
     omega (arith, first_small c.args.body.now 6 inside c.six_at-times.result times-read times-good, last-small c.args.body.now 6 inside c.six_at-times.result times-read times-good)
 
 pub times_right-requires : goal.times_right-requires
@@ -49,7 +49,7 @@ times_right-requires c =
     let long : length c.args.body.now ≡ 13 = c.if-n-ne13.false in
     let inside : 6 + 6 ≤ length c.args.body.now = omega (arith, long) in
     let times-read : c.six_at-times.result ≡ block_at 6 2 c.args.body.now 6 = c.six_at-times.ensures in
-    let times-good : c.six_at-times.result.well-formed ≡ true = not-false _ c.if-not-times.false in
+    let times-good : c.six_at-times.result.good ≡ true = not-false _ c.if-not-times.false in
     (
       inside,
       first_good c.args.body.now 6 inside c.six_at-times.result times-read times-good,
@@ -62,7 +62,7 @@ pub returns-then-not-times_right : goal.returns-then-not-times_right
 returns-then-not-times_right c =
     let long : length c.args.body.now ≡ 13 = c.if-n-ne13.false in
     let times-read : c.six_at-times.result ≡ block_at 6 2 c.args.body.now 6 = c.six_at-times.ensures in
-    let times-good : c.six_at-times.result.well-formed ≡ true = not-false _ c.if-not-times.false in
+    let times-good : c.six_at-times.result.good ≡ true = not-false _ c.if-not-times.false in
     let t : times_right (c.six_at-times.result.first * 100 + c.six_at-times.result.last / 1000000) (c.six_at-times.result.last % 1000000) ≡ false = sym c.times_right.ensures ∙ c.if-not-times_right.true in
     refused_as c.args.seq c.args.body.now 12 refl refl refl (wrong-times c.args.body.now long c.six_at-times.result times-read times-good t) 26 (omega (arith, long)) c.refused-then-not-times_right.result c.refused-then-not-times_right.ensures
 
@@ -70,7 +70,7 @@ pub returns-then-not-code_fits : goal.returns-then-not-code_fits
 returns-then-not-code_fits c =
     let long : length c.args.body.now ≡ 13 = c.if-n-ne13.false in
     let times-read : c.six_at-times.result ≡ block_at 6 2 c.args.body.now 6 = c.six_at-times.ensures in
-    let times-good : c.six_at-times.result.well-formed ≡ true = not-false _ c.if-not-times.false in
+    let times-good : c.six_at-times.result.good ≡ true = not-false _ c.if-not-times.false in
     let times-right : times_right (c.six_at-times.result.first * 100 + c.six_at-times.result.last / 1000000) (c.six_at-times.result.last % 1000000) ≡ true = sym c.times_right.ensures ∙ c.if-not-times_right.false in
     let round : eqb (c.six_at-times.result.first * 100 + c.six_at-times.result.last / 1000000) (nines 0) ≡ round_times (c.six_at-times.result.first * 100 + c.six_at-times.result.last / 1000000) (c.six_at-times.result.last % 1000000) = round-told (c.six_at-times.result.first * 100 + c.six_at-times.result.last / 1000000) (c.six_at-times.result.last % 1000000) times-right in
     let code_read : c.code_at-code.result ≡ take 6 c.args.body.now = c.code_at-code.ensures ∙ code_in c.args.body.now 0 (omega (arith, long)) in
@@ -82,7 +82,7 @@ pub returns-then-not-state_right : goal.returns-then-not-state_right
 returns-then-not-state_right c =
     let long : length c.args.body.now ≡ 13 = c.if-n-ne13.false in
     let times-read : c.six_at-times.result ≡ block_at 6 2 c.args.body.now 6 = c.six_at-times.ensures in
-    let times-good : c.six_at-times.result.well-formed ≡ true = not-false _ c.if-not-times.false in
+    let times-good : c.six_at-times.result.good ≡ true = not-false _ c.if-not-times.false in
     let times-right : times_right (c.six_at-times.result.first * 100 + c.six_at-times.result.last / 1000000) (c.six_at-times.result.last % 1000000) ≡ true = sym c.times_right.ensures ∙ c.if-not-times_right.false in
     let q : state_right (get_or c.args.body.now 12 0) ≡ false = sym c.state_right.ensures ∙ c.if-not-state_right.true in
     refused_as c.args.seq c.args.body.now 13 refl refl refl (wrong-state c.args.body.now long c.six_at-times.result times-read times-good times-right q) 26 (omega (arith, long)) c.refused-then-not-state_right.result c.refused-then-not-state_right.ensures
@@ -91,7 +91,7 @@ pub returns : goal.returns
 returns c =
     let long : length c.args.body.now ≡ 13 = c.if-n-ne13.false in
     let times-read : c.six_at-times.result ≡ block_at 6 2 c.args.body.now 6 = c.six_at-times.ensures in
-    let times-good : c.six_at-times.result.well-formed ≡ true = not-false _ c.if-not-times.false in
+    let times-good : c.six_at-times.result.good ≡ true = not-false _ c.if-not-times.false in
     let times-right : times_right (c.six_at-times.result.first * 100 + c.six_at-times.result.last / 1000000) (c.six_at-times.result.last % 1000000) ≡ true = sym c.times_right.ensures ∙ c.if-not-times_right.false in
     let round : eqb (c.six_at-times.result.first * 100 + c.six_at-times.result.last / 1000000) (nines 0) ≡ round_times (c.six_at-times.result.first * 100 + c.six_at-times.result.last / 1000000) (c.six_at-times.result.last % 1000000) = round-told (c.six_at-times.result.first * 100 + c.six_at-times.result.last / 1000000) (c.six_at-times.result.last % 1000000) times-right in
     let code_read : c.code_at-code.result ≡ take 6 c.args.body.now = c.code_at-code.ensures ∙ code_in c.args.body.now 0 (omega (arith, long)) in

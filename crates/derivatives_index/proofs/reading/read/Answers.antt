@@ -18,12 +18,12 @@ pub returns-then-not-is_known : goal.returns-then-not-is_known
 returns-then-not-is_known c =
     let a = c.args in
     read-refused a.head a.body.now 7 c.refused.result (omega arith) refl
-    (fails-known a.head a.body.now (sym c.is_Known.ensures ∙ c.if-not-is_known.true))
+    (fails-known a.head a.body.now (sym c.is_known.ensures ∙ c.if-not-is_known.true))
     c.refused.ensures
 
 pub returns-then-head-version : goal.returns-then-head-version
 returns-then-head-version c =
-    let known_at : known c.args.head.market c.args.head.kind ≡ true = sym c.is_Known.ensures ∙ c.if-not-is_known.false in
+    let known_at : known c.args.head.market c.args.head.kind ≡ true = sym c.is_known.ensures ∙ c.if-not-is_known.false in
     let a = c.args in
     read-refused a.head a.body.now 8 c.refused-then-head-version.result (omega arith) refl
     (fails-version a.head a.body.now known_at (λ e. c.if-head-version.true (e ∙ sym c.version_of-version.ensures)))
@@ -31,7 +31,7 @@ returns-then-head-version c =
 
 pub returns-then-not-is_length : goal.returns-then-not-is_length
 returns-then-not-is_length c =
-    let known_at : known c.args.head.market c.args.head.kind ≡ true = sym c.is_Known.ensures ∙ c.if-not-is_known.false in
+    let known_at : known c.args.head.market c.args.head.kind ≡ true = sym c.is_known.ensures ∙ c.if-not-is_known.false in
     let version-at : c.args.head.version ≡ version_of c.args.head.kind = c.if-head-version.false ∙ c.version_of-version.ensures in
     let a = c.args in
     read-refused a.head a.body.now 9 c.refused-then-not-is_length.result (omega arith) refl
@@ -51,7 +51,7 @@ place_in-place-requires c =
 
 pub returns-then-not-h : goal.returns-then-not-h
 returns-then-not-h c =
-    let known_at : known c.args.head.market c.args.head.kind ≡ true = sym c.is_Known.ensures ∙ c.if-not-is_known.false in
+    let known_at : known c.args.head.market c.args.head.kind ≡ true = sym c.is_known.ensures ∙ c.if-not-is_known.false in
     let version-at : c.args.head.version ≡ version_of c.args.head.kind = c.if-head-version.false ∙ c.version_of-version.ensures in
     let long-at : body_length (length c.args.body.now) ≡ true = sym c.is_length.ensures ∙ c.if-not-is_length.false in
     let a = c.args in
@@ -62,14 +62,14 @@ returns-then-not-h c =
 
 pub returns-then-not-is_time : goal.returns-then-not-is_time
 returns-then-not-is_time c =
-    let known_at : known c.args.head.market c.args.head.kind ≡ true = sym c.is_Known.ensures ∙ c.if-not-is_known.false in
+    let known_at : known c.args.head.market c.args.head.kind ≡ true = sym c.is_known.ensures ∙ c.if-not-is_known.false in
     let outlined : known c.args.head.market c.args.head.kind ≡ true = known_at in
     let version-at : c.args.head.version ≡ version_of c.args.head.kind = c.if-head-version.false ∙ c.version_of-version.ensures in
     let versioned : c.args.head.version ≡ version_of c.args.head.kind = version-at in
     let long-at : body_length (length c.args.body.now) ≡ true = sym c.is_length.ensures ∙ c.if-not-is_length.false in
     let lengthed : body_length (length c.args.body.now) ≡ true = long-at in
     let told : c.eight_at-h.result ≡ block_at 8 4 c.args.body.now (length c.args.body.now - 9) = c.eight_at-h.ensures in
-    let good-at : c.eight_at-h.result.well-formed ≡ true = not-false _ c.if-not-h.false in
+    let good-at : c.eight_at-h.result.good ≡ true = not-false _ c.if-not-h.false in
     read-refused c.args.head c.args.body.now 12 c.refused-then-not-is_time.result (omega arith) refl
     (bad-sent c.args.head c.args.body.now outlined versioned lengthed c.eight_at-h.result told good-at
     (sym c.is_time.ensures ∙ c.if-not-is_time.true))
@@ -77,14 +77,14 @@ returns-then-not-is_time c =
 
 pub returns-then-not-is_time-2 : goal.returns-then-not-is_time-2
 returns-then-not-is_time-2 c =
-    let known_at : known c.args.head.market c.args.head.kind ≡ true = sym c.is_Known.ensures ∙ c.if-not-is_known.false in
+    let known_at : known c.args.head.market c.args.head.kind ≡ true = sym c.is_known.ensures ∙ c.if-not-is_known.false in
     let outlined : known c.args.head.market c.args.head.kind ≡ true = known_at in
     let version-at : c.args.head.version ≡ version_of c.args.head.kind = c.if-head-version.false ∙ c.version_of-version.ensures in
     let versioned : c.args.head.version ≡ version_of c.args.head.kind = version-at in
     let long-at : body_length (length c.args.body.now) ≡ true = sym c.is_length.ensures ∙ c.if-not-is_length.false in
     let lengthed : body_length (length c.args.body.now) ≡ true = long-at in
     let told : c.eight_at-h.result ≡ block_at 8 4 c.args.body.now (length c.args.body.now - 9) = c.eight_at-h.ensures in
-    let good-at : c.eight_at-h.result.well-formed ≡ true = not-false _ c.if-not-h.false in
+    let good-at : c.eight_at-h.result.good ≡ true = not-false _ c.if-not-h.false in
     let sent-at : time_of_day 2 c.args.head.sent ≡ true = sym c.is_time.ensures ∙ c.if-not-is_time.false in
     read-refused c.args.head c.args.body.now 12 c.refused-then-not-is_time-2.result (omega arith) refl
     (bad-time c.args.head c.args.body.now outlined versioned lengthed c.eight_at-h.result told good-at sent-at
@@ -99,14 +99,14 @@ contract_right-requires c =
 
 pub returns-then-not-contract_right : goal.returns-then-not-contract_right
 returns-then-not-contract_right c =
-    let known_at : known c.args.head.market c.args.head.kind ≡ true = sym c.is_Known.ensures ∙ c.if-not-is_known.false in
+    let known_at : known c.args.head.market c.args.head.kind ≡ true = sym c.is_known.ensures ∙ c.if-not-is_known.false in
     let outlined : known c.args.head.market c.args.head.kind ≡ true = known_at in
     let version-at : c.args.head.version ≡ version_of c.args.head.kind = c.if-head-version.false ∙ c.version_of-version.ensures in
     let versioned : c.args.head.version ≡ version_of c.args.head.kind = version-at in
     let long-at : body_length (length c.args.body.now) ≡ true = sym c.is_length.ensures ∙ c.if-not-is_length.false in
     let lengthed : body_length (length c.args.body.now) ≡ true = long-at in
     let told : c.eight_at-h.result ≡ block_at 8 4 c.args.body.now (length c.args.body.now - 9) = c.eight_at-h.ensures in
-    let good-at : c.eight_at-h.result.well-formed ≡ true = not-false _ c.if-not-h.false in
+    let good-at : c.eight_at-h.result.good ≡ true = not-false _ c.if-not-h.false in
     let sent-at : time_of_day 2 c.args.head.sent ≡ true = sym c.is_time.ensures ∙ c.if-not-is_time.false in
     let time-at : time_of_day 2 c.eight_at-h.result.first ≡ true = sym c.is_time-2.ensures ∙ c.if-not-is_time-2.false in
     read-refused c.args.head c.args.body.now 13 c.refused-then-not-contract_right.result (omega arith) refl
@@ -128,14 +128,14 @@ bounds-body-n c =
 
 pub returns-then-not-is_status : goal.returns-then-not-is_status
 returns-then-not-is_status c =
-    let known_at : known c.args.head.market c.args.head.kind ≡ true = sym c.is_Known.ensures ∙ c.if-not-is_known.false in
+    let known_at : known c.args.head.market c.args.head.kind ≡ true = sym c.is_known.ensures ∙ c.if-not-is_known.false in
     let outlined : known c.args.head.market c.args.head.kind ≡ true = known_at in
     let version-at : c.args.head.version ≡ version_of c.args.head.kind = c.if-head-version.false ∙ c.version_of-version.ensures in
     let versioned : c.args.head.version ≡ version_of c.args.head.kind = version-at in
     let long-at : body_length (length c.args.body.now) ≡ true = sym c.is_length.ensures ∙ c.if-not-is_length.false in
     let lengthed : body_length (length c.args.body.now) ≡ true = long-at in
     let told : c.eight_at-h.result ≡ block_at 8 4 c.args.body.now (length c.args.body.now - 9) = c.eight_at-h.ensures in
-    let good-at : c.eight_at-h.result.well-formed ≡ true = not-false _ c.if-not-h.false in
+    let good-at : c.eight_at-h.result.good ≡ true = not-false _ c.if-not-h.false in
     let sent-at : time_of_day 2 c.args.head.sent ≡ true = sym c.is_time.ensures ∙ c.if-not-is_time.false in
     let time-at : time_of_day 2 c.eight_at-h.result.first ≡ true = sym c.is_time-2.ensures ∙ c.if-not-is_time-2.false in
     let contract-at : code_right (take (length c.args.body.now - 9) c.args.body.now) ≡ true = sym c.contract_right.ensures ∙ c.if-not-contract_right.false in
@@ -152,14 +152,14 @@ contract_in-contract-requires c =
 
 pub returns : goal.returns
 returns c =
-    let known_at : known c.args.head.market c.args.head.kind ≡ true = sym c.is_Known.ensures ∙ c.if-not-is_known.false in
+    let known_at : known c.args.head.market c.args.head.kind ≡ true = sym c.is_known.ensures ∙ c.if-not-is_known.false in
     let outlined : known c.args.head.market c.args.head.kind ≡ true = known_at in
     let version-at : c.args.head.version ≡ version_of c.args.head.kind = c.if-head-version.false ∙ c.version_of-version.ensures in
     let versioned : c.args.head.version ≡ version_of c.args.head.kind = version-at in
     let long-at : body_length (length c.args.body.now) ≡ true = sym c.is_length.ensures ∙ c.if-not-is_length.false in
     let lengthed : body_length (length c.args.body.now) ≡ true = long-at in
     let told : c.eight_at-h.result ≡ block_at 8 4 c.args.body.now (length c.args.body.now - 9) = c.eight_at-h.ensures in
-    let good-at : c.eight_at-h.result.well-formed ≡ true = not-false _ c.if-not-h.false in
+    let good-at : c.eight_at-h.result.good ≡ true = not-false _ c.if-not-h.false in
     let sent-at : time_of_day 2 c.args.head.sent ≡ true = sym c.is_time.ensures ∙ c.if-not-is_time.false in
     let time-at : time_of_day 2 c.eight_at-h.result.first ≡ true = sym c.is_time-2.ensures ∙ c.if-not-is_time-2.false in
     let contract-at : code_right (take (length c.args.body.now - 9) c.args.body.now) ≡ true = sym c.contract_right.ensures ∙ c.if-not-contract_right.false in

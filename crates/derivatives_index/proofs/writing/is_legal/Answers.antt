@@ -49,7 +49,7 @@ returns-then-value-gt-MOST c =
     illegal-value c.args.m (record { contract-long = long }) c.if-value-gt-MOST.true
 
 pub returns-then-not-is_known : goal.returns-then-not-is_known
-returns-then-not-is_known c = illegal-known c.args.m (sym c.is_Known.ensures ∙ c.if-not-is_known.true)
+returns-then-not-is_known c = illegal-known c.args.m (sym c.is_known.ensures ∙ c.if-not-is_known.true)
 
 pub returns-then-not-is_time : goal.returns-then-not-is_time
 returns-then-not-is_time c = illegal-sent c.args.m (sym c.is_time.ensures ∙ c.if-not-is_time.true)
@@ -81,7 +81,7 @@ returns c =
     let length_at : body_length (c.args.m.length + beside) ≡ true = sym c.is_contract.ensures ∙ c.if-not-is_contract.false in
     let tidy-told : c.is_clear.result ≡ tidy_index c.args.m = let m = c.args.m in c.is_clear.ensures ∙ clear_behind m.contract m.length room long in
     let tidy-at : tidy_index c.args.m ≡ true = sym tidy-told ∙ c.if-not-is_clear.false in
-    let known_at : known c.args.m.market c.args.m.kind ≡ true = sym c.is_Known.ensures ∙ c.if-not-is_known.false in
+    let known_at : known c.args.m.market c.args.m.kind ≡ true = sym c.is_known.ensures ∙ c.if-not-is_known.false in
     let sent-at : time_of_day 2 c.args.m.sent ≡ true = sym c.is_time.ensures ∙ c.if-not-is_time.false in
     let time-at : time_of_day 2 c.args.m.time ≡ true = sym c.is_time-2.ensures ∙ c.if-not-is_time-2.false in
     let code_at : code_right (take c.args.m.length c.args.m.contract) ≡ true = sym c.code_right.ensures ∙ c.if-not-code_right.false in

@@ -1,7 +1,9 @@
 -- `recording::take_run` meets its contract: the run ends a missing stretch, or begins one, or neither.
-use Prim.Native.Nat.{◌-◌, ◌<◌}
+use Prim.Native.Nat.{ℕ, ◌-◌, ◌<◌}
 use native.Mathlib.Omega.{arith}
-use mathlib.Core.Path.{◌≡◌}
+use mathlib.Core.Path.{◌≡◌, ap, ◌∙◌}
+use Rattle.ledger.specs.Ends.{with_run}
+use Rattle.ledger_arrivals.specs.Steps.{taken_answer, taken_ends}
 use lib.ListN.{get_or}
 use Rattle.ledger_arrivals.proofs.TakeLaws.{at-its-end, taken-raises}
 use Rattle.ledger_arrivals.proofs.recording.take_run.Goals as goal
@@ -11,7 +13,10 @@ pub shorten-requires : goal.shorten-requires
 shorten-requires c = at-its-end c.args.at c.args.before c.args.last c.args.ends.now c.requires c.if-at-gt0.true c.if-ends-at.true
 
 pub returns-then-ends-at : goal.returns-then-ends-at
-returns-then-ends-at c = record { value = rw c.if-ends-at.true at c.shorten.ensures.value; ends_after = rw c.if-ends-at.true at c.shorten.ensures.ends_after }
+returns-then-ends-at c = record {
+  value = c.shorten.ensures.value ∙ ap (λ (x : ℕ). taken_answer (with_run c.args.before x c.args.ends.now)) c.if-ends-at.true;
+  ends_after = c.shorten.ensures.ends_after ∙ ap (λ (x : ℕ). taken_ends (with_run c.args.before x c.args.ends.now) c.args.ends.now) c.if-ends-at.true;
+}
 
 pub returns-then-ends-at-2 : goal.returns-then-ends-at-2
 returns-then-ends-at-2 c =
