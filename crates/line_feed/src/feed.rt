@@ -1,5 +1,6 @@
 // A line that is being read, and the text about it that waits to be written.
-ghost use Rattle.std.specs.Prelude.{◌≡◌};
+ghost use Rattle.std.specs.Prelude.{◌≡◌, ◌==◌, if◌then◌else◌};
+ghost use Rattle.std.specs.Process.{exit_status};
 ghost use Rattle.line_feed.specs.Beginning.{fresh_feed};
 
 use lines::exchanges::Exchange;
@@ -77,13 +78,17 @@ fn words_of(failure: u8) -> &'static [u8] {
 }
 
 // Says a text on standard error, and answers the exit status of a program that had something to say there, said or not.
-pub fn say<W: Write>(err: &mut W, text: &[u8]) -> ExitCode {
+pub fn say<W: Write>(err: &mut W, text: &[u8]) -> ExitCode
+    ensures { exit_status result ≡ 1 }
+{
     let _ = err.write_all(text);
     ExitCode::FAILURE
 }
 
 // Says on standard error what failed in a program, if anything did, and answers the program's exit status.
-pub fn tell<W: Write>(err: &mut W, program: &[u8], failure: u8) -> ExitCode {
+pub fn tell<W: Write>(err: &mut W, program: &[u8], failure: u8) -> ExitCode
+    ensures { exit_status result ≡ (if failure == 0 then 0 else 1) }
+{
     if failure == 0 {
         return ExitCode::SUCCESS;
     }
