@@ -62,5 +62,6 @@ amounts-all (s ∷ ss) = let e : length (spread amounts_in ss) ≡ 5 * length ss
 
 -- the code at a place
 pub code-wide : (ss : List Slot) (d : Slot) (i : ℕ) → codes_long ss → i < length ss → length (get_or ss i d).code ≡ 6
+code-wide [] d i h l = elim l [ ]
 code-wide (s ∷ ss) d zero h l = h.0
 code-wide (s ∷ ss) d (suc i) h l = code-wide ss d i h.1 (omega (arith, l))

@@ -11,10 +11,6 @@ use Rattle.stock_prices.proofs.AndLaws.{later, none}
 use Rattle.stock_prices_read.proofs.SlotReads.{part, price-bad, price-is, pair-bad, pair_is, figures-refused, figures-told}
 use Rattle.stock_prices_read.proofs.slots.figures_at.Goals as goal
 
--- the bytes of a field
-abbrev field : ℕ → ℕ → tie.Start → List ℕ
-field n k o = part n o.args.body.now (o.args.at + k)
-
 pub returns-in_default : goal.returns-in_default
 returns-in_default c =
     figures-refused c.args.body.now c.args.at (none _
@@ -22,31 +18,31 @@ returns-in_default c =
 
 pub returns-in_default-from_digits : goal.returns-in_default-from_digits
 returns-in_default-from_digits c =
-    let is-opening : (good_field 9 (field 5 6 c) ≡ true) × (as_price (value (field 5 6 c)) ≡ c.in-Is.opening) = price-is c.args.body.now (c.args.at + 6) c.in-Is.opening (omega (arith, c.requires)) (sym c.from_digits.ensures ∙ c.in-Is.is) in
+    let is-opening : (good_field 9 (part 5 c.args.body.now (c.args.at + 6)) ≡ true) × (as_price (value (part 5 c.args.body.now (c.args.at + 6))) ≡ c.in-Is.opening) = price-is c.args.body.now (c.args.at + 6) c.in-Is.opening (omega (arith, c.requires)) (sym c.from_digits.ensures ∙ c.in-Is.is) in
     figures-refused c.args.body.now c.args.at (later is-opening.0 (none _
     (price-bad c.args.body.now (c.args.at + 11) (omega (arith, c.requires)) (sym c.from_digits-2.ensures ∙ c.in_default-from_digits.is))))
 
 pub returns-in_default-from_digits-2 : goal.returns-in_default-from_digits-2
 returns-in_default-from_digits-2 c =
-    let is-opening : (good_field 9 (field 5 6 c) ≡ true) × (as_price (value (field 5 6 c)) ≡ c.in-Is.opening) = price-is c.args.body.now (c.args.at + 6) c.in-Is.opening (omega (arith, c.requires)) (sym c.from_digits.ensures ∙ c.in-Is.is) in
-    let is-highest : (good_field 9 (field 5 11 c) ≡ true) × (as_price (value (field 5 11 c)) ≡ c.in-Is-from_digits.highest) = price-is c.args.body.now (c.args.at + 11) c.in-Is-from_digits.highest (omega (arith, c.requires)) (sym c.from_digits-2.ensures ∙ c.in-Is-from_digits.is) in
+    let is-opening : (good_field 9 (part 5 c.args.body.now (c.args.at + 6)) ≡ true) × (as_price (value (part 5 c.args.body.now (c.args.at + 6))) ≡ c.in-Is.opening) = price-is c.args.body.now (c.args.at + 6) c.in-Is.opening (omega (arith, c.requires)) (sym c.from_digits.ensures ∙ c.in-Is.is) in
+    let is-highest : (good_field 9 (part 5 c.args.body.now (c.args.at + 11)) ≡ true) × (as_price (value (part 5 c.args.body.now (c.args.at + 11))) ≡ c.in-Is-from_digits.highest) = price-is c.args.body.now (c.args.at + 11) c.in-Is-from_digits.highest (omega (arith, c.requires)) (sym c.from_digits-2.ensures ∙ c.in-Is-from_digits.is) in
     figures-refused c.args.body.now c.args.at (later is-opening.0 (later is-highest.0 (none _
     (price-bad c.args.body.now (c.args.at + 16) (omega (arith, c.requires)) (sym c.from_digits-3.ensures ∙ c.in_default-from_digits-2.is)))))
 
 pub returns-in_default-from_digits-3 : goal.returns-in_default-from_digits-3
 returns-in_default-from_digits-3 c =
-    let is-opening : (good_field 9 (field 5 6 c) ≡ true) × (as_price (value (field 5 6 c)) ≡ c.in-Is.opening) = price-is c.args.body.now (c.args.at + 6) c.in-Is.opening (omega (arith, c.requires)) (sym c.from_digits.ensures ∙ c.in-Is.is) in
-    let is-highest : (good_field 9 (field 5 11 c) ≡ true) × (as_price (value (field 5 11 c)) ≡ c.in-Is-from_digits.highest) = price-is c.args.body.now (c.args.at + 11) c.in-Is-from_digits.highest (omega (arith, c.requires)) (sym c.from_digits-2.ensures ∙ c.in-Is-from_digits.is) in
-    let is-lowest : (good_field 9 (field 5 16 c) ≡ true) × (as_price (value (field 5 16 c)) ≡ c.in-Is-from_digits-2.lowest) = price-is c.args.body.now (c.args.at + 16) c.in-Is-from_digits-2.lowest (omega (arith, c.requires)) (sym c.from_digits-3.ensures ∙ c.in-Is-from_digits-2.is) in
+    let is-opening : (good_field 9 (part 5 c.args.body.now (c.args.at + 6)) ≡ true) × (as_price (value (part 5 c.args.body.now (c.args.at + 6))) ≡ c.in-Is.opening) = price-is c.args.body.now (c.args.at + 6) c.in-Is.opening (omega (arith, c.requires)) (sym c.from_digits.ensures ∙ c.in-Is.is) in
+    let is-highest : (good_field 9 (part 5 c.args.body.now (c.args.at + 11)) ≡ true) × (as_price (value (part 5 c.args.body.now (c.args.at + 11))) ≡ c.in-Is-from_digits.highest) = price-is c.args.body.now (c.args.at + 11) c.in-Is-from_digits.highest (omega (arith, c.requires)) (sym c.from_digits-2.ensures ∙ c.in-Is-from_digits.is) in
+    let is-lowest : (good_field 9 (part 5 c.args.body.now (c.args.at + 16)) ≡ true) × (as_price (value (part 5 c.args.body.now (c.args.at + 16))) ≡ c.in-Is-from_digits-2.lowest) = price-is c.args.body.now (c.args.at + 16) c.in-Is-from_digits-2.lowest (omega (arith, c.requires)) (sym c.from_digits-3.ensures ∙ c.in-Is-from_digits-2.is) in
     figures-refused c.args.body.now c.args.at (later is-opening.0 (later is-highest.0 (later is-lowest.0
     (pair-bad c.args.body.now (c.args.at + 21) (c.args.at + 26) (omega arith) (omega (arith, c.requires)) (sym c.from_digits-4.ensures ∙ c.in_default-from_digits-3.is)))))
 
 pub returns : goal.returns
 returns c =
-    let is-opening : (good_field 9 (field 5 6 c) ≡ true) × (as_price (value (field 5 6 c)) ≡ c.in-Is.opening) = price-is c.args.body.now (c.args.at + 6) c.in-Is.opening (omega (arith, c.requires)) (sym c.from_digits.ensures ∙ c.in-Is.is) in
-    let is-highest : (good_field 9 (field 5 11 c) ≡ true) × (as_price (value (field 5 11 c)) ≡ c.in-Is-from_digits.highest) = price-is c.args.body.now (c.args.at + 11) c.in-Is-from_digits.highest (omega (arith, c.requires)) (sym c.from_digits-2.ensures ∙ c.in-Is-from_digits.is) in
-    let is-lowest : (good_field 9 (field 5 16 c) ≡ true) × (as_price (value (field 5 16 c)) ≡ c.in-Is-from_digits-2.lowest) = price-is c.args.body.now (c.args.at + 16) c.in-Is-from_digits-2.lowest (omega (arith, c.requires)) (sym c.from_digits-3.ensures ∙ c.in-Is-from_digits-2.is) in
-    let is-pair : ((good_field 9 (field 5 21 c) && good_field 8 (field 4 26 c)) ≡ true) × (record { price = as_price (value (field 5 21 c)); quantity = as_quantity (value (field 4 26 c)) } ≡ c.in-Is-from_digits-3.pair) = pair_is c.args.body.now (c.args.at + 21) (c.args.at + 26) (omega arith) (omega (arith, c.requires)) c.in-Is-from_digits-3.pair (sym c.from_digits-4.ensures ∙ c.in-Is-from_digits-3.is) in
+    let is-opening : (good_field 9 (part 5 c.args.body.now (c.args.at + 6)) ≡ true) × (as_price (value (part 5 c.args.body.now (c.args.at + 6))) ≡ c.in-Is.opening) = price-is c.args.body.now (c.args.at + 6) c.in-Is.opening (omega (arith, c.requires)) (sym c.from_digits.ensures ∙ c.in-Is.is) in
+    let is-highest : (good_field 9 (part 5 c.args.body.now (c.args.at + 11)) ≡ true) × (as_price (value (part 5 c.args.body.now (c.args.at + 11))) ≡ c.in-Is-from_digits.highest) = price-is c.args.body.now (c.args.at + 11) c.in-Is-from_digits.highest (omega (arith, c.requires)) (sym c.from_digits-2.ensures ∙ c.in-Is-from_digits.is) in
+    let is-lowest : (good_field 9 (part 5 c.args.body.now (c.args.at + 16)) ≡ true) × (as_price (value (part 5 c.args.body.now (c.args.at + 16))) ≡ c.in-Is-from_digits-2.lowest) = price-is c.args.body.now (c.args.at + 16) c.in-Is-from_digits-2.lowest (omega (arith, c.requires)) (sym c.from_digits-3.ensures ∙ c.in-Is-from_digits-2.is) in
+    let is-pair : ((good_field 9 (part 5 c.args.body.now (c.args.at + 21)) && good_field 8 (part 4 c.args.body.now (c.args.at + 26))) ≡ true) × (record { price = as_price (value (part 5 c.args.body.now (c.args.at + 21))); quantity = as_quantity (value (part 4 c.args.body.now (c.args.at + 26))) } ≡ c.in-Is-from_digits-3.pair) = pair_is c.args.body.now (c.args.at + 21) (c.args.at + 26) (omega arith) (omega (arith, c.requires)) c.in-Is-from_digits-3.pair (sym c.from_digits-4.ensures ∙ c.in-Is-from_digits-3.is) in
     let q1 = is-opening in
     let q2 = is-highest in
     let q3 = is-lowest in

@@ -23,10 +23,10 @@ overflow_add-at-6 c = omega (arith, c)
 
 pub shape_of-buf : goal.shape_of-buf
 shape_of-buf c =
-    let put : c.write-6.new.buf ≡ sets c.args.buf.now c.args.at (encode slot_cells (slot_values c.args.s)) = slot-put c.args.s (code-long c.args.s _ c.good.0) c.requires.1 c.args.buf.now c.put_code.new.buf c.write.new.buf c.write-2.new.buf c.write-3.new.buf c.write-4.new.buf c.write-5.new.buf c.write-6.new.buf c.args.at c.requires.0 c.put_code.ensures c.write.ensures.1 c.write-2.ensures.1 c.write-3.ensures.1 c.write-4.ensures.1 c.write-5.ensures.1 c.write-6.ensures.1 in
+    let put : c.write-6.new.buf ≡ sets c.args.buf.now c.args.at (encode slot_cells (slot_values c.args.s)) = slot-put c.args.s (code-long c.args.s _ c.well_formed.0) c.requires.1 c.args.buf.now c.put_code.new.buf c.write.new.buf c.write-2.new.buf c.write-3.new.buf c.write-4.new.buf c.write-5.new.buf c.write-6.new.buf c.args.at c.requires.0 c.put_code.ensures c.write.ensures.1 c.write-2.ensures.1 c.write-3.ensures.1 c.write-4.ensures.1 c.write-5.ensures.1 c.write-6.ensures.1 in
     ap length put ∙ length-sets c.args.buf.now c.args.at (encode slot_cells (slot_values c.args.s))
 
 pub returns : goal.returns
 returns c =
-    let put : c.write-6.new.buf ≡ sets c.args.buf.now c.args.at (encode slot_cells (slot_values c.args.s)) = slot-put c.args.s (code-long c.args.s _ c.good.0) c.requires.1 c.args.buf.now c.put_code.new.buf c.write.new.buf c.write-2.new.buf c.write-3.new.buf c.write-4.new.buf c.write-5.new.buf c.write-6.new.buf c.args.at c.requires.0 c.put_code.ensures c.write.ensures.1 c.write-2.ensures.1 c.write-3.ensures.1 c.write-4.ensures.1 c.write-5.ensures.1 c.write-6.ensures.1 in
+    let put : c.write-6.new.buf ≡ sets c.args.buf.now c.args.at (encode slot_cells (slot_values c.args.s)) = slot-put c.args.s (code-long c.args.s _ c.well_formed.0) c.requires.1 c.args.buf.now c.put_code.new.buf c.write.new.buf c.write-2.new.buf c.write-3.new.buf c.write-4.new.buf c.write-5.new.buf c.write-6.new.buf c.args.at c.requires.0 c.put_code.ensures c.write.ensures.1 c.write-2.ensures.1 c.write-3.ensures.1 c.write-4.ensures.1 c.write-5.ensures.1 c.write-6.ensures.1 in
     put

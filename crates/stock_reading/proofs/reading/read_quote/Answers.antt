@@ -1,0 +1,21 @@
+-- `reading::read_quote` meets its contract.
+use mathlib.Core.Path.{◌∙◌}
+use Rattle.stock_quotes.specs.Quotes.{no_quote, six_codec, quote_reading}
+use Rattle.stock_reading.proofs.HeaderLaws.{six-listed}
+use Rattle.stock_reading.proofs.PlaceLaws.{KindFound, kind-found, kind-other}
+use Rattle.stock_reading.proofs.reading.read_quote.Goals as goal
+
+-- none is there
+pub returns-in-None : goal.returns-in-None
+returns-in-None c =
+    let a = c.args in
+    let other = kind-other six_codec no_quote six-listed a.line.now a.at _ c.find_kind.ensures c.in-None.answer c.in-None.is in
+    let none = c.empty-quote.ensures ∙ other.1 in
+    λ i. record { answer = other.0 i; quote = none i }
+
+pub returns-in-At : goal.returns-in-At
+unfolding quote_reading
+returns-in-At c =
+    let found : KindFound six_codec no_quote c.args.line.now c.args.at c.in-At.w = let a = c.args in kind-found six_codec no_quote six-listed a.line.now a.at _ c.find_kind.ensures c.in-At.w c.in-At.is in
+    let hit = found in
+    c.read.ensures ∙ (λ i. record { answer = hit.answers i; quote = hit.means i })
