@@ -239,7 +239,7 @@ fn opened(rt: &HostRuntime, told: &mut Telling, name: &[u8]) -> Option<File> {
     }
 }
 
-// Whether a file stands in for a standard stream that is closed; then it is closed.
+// The file, unless it stands in for a standard stream that is closed: then it is closed, before anything is said.
 fn unless_standard(file: File) -> Option<File> {
     if file.as_raw_fd() <= STDERR {
         return None;
