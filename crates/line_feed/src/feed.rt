@@ -1,9 +1,14 @@
 // A line that is being read, and the text about it that waits to be written.
-ghost use Rattle.std.specs.Prelude.{◌≡◌};
+ghost use Rattle.std.specs.Prelude.{◌≡◌, ◌==◌, if◌then◌else◌};
+ghost use Rattle.std.specs.Process.{exit_status};
 ghost use Rattle.line_feed.specs.Beginning.{fresh_feed};
 
-use libc::STDERR_FILENO;
 use lines::exchanges::Exchange;
+use std::io::Write;
+use std::process::ExitCode;
+
+// The bytes of a program's input buffer, and of its output buffer.
+pub const LARGE: usize = 65_536;
 
 // Standard input could not be read.
 pub const READ: u8 = 1;
@@ -21,7 +26,7 @@ pub const ARGUMENT: u8 = 4;
 pub const FULL: u8 = 16;
 
 // The small fields stand together, at the end: with a gap behind one of them a copy takes several times as long.
-#[derive(Drop)]
+#[derive(Clone, Copy)]
 pub struct Feed {
     // the bytes in hand that are not done with: from a place of the input buffer up to an end
     pub at: usize,
@@ -56,33 +61,39 @@ impl Feed {
 }
 
 // What failed, in words.
-fn say(failure: u8) {
+fn words_of(failure: u8) -> &'static [u8] {
     if failure == READ {
-        io::write_all(STDERR_FILENO, b"cannot read standard input");
-        return;
+        return b"cannot read standard input";
     }
     if failure == WRITE {
-        io::write_all(STDERR_FILENO, b"cannot write standard output");
-        return;
+        return b"cannot write standard output";
     }
     if failure == ARGUMENT {
-        io::write_all(STDERR_FILENO, b"the only argument is derivatives-2015");
-        return;
+        return b"the only argument is derivatives-2015";
     }
     if failure == FULL {
-        io::write_all(STDERR_FILENO, b"answer 16: the line is too long to count");
-        return;
+        return b"answer 16: the line is too long to count";
     }
-    io::write_all(STDERR_FILENO, b"a text has no room in the buffer");
+    b"a text has no room in the buffer"
 }
 
-// Says on standard error what failed in a program, if anything did.
-pub fn tell(program: &[u8], failure: u8) {
+// Says a text on standard error, and answers the exit status of a program that had something to say there, said or not.
+pub fn say<W: Write>(err: &mut W, text: &[u8]) -> ExitCode
+    ensures { exit_status result ≡ 1 }
+{
+    let _ = err.write_all(text);
+    ExitCode::FAILURE
+}
+
+// Says on standard error what failed in a program, if anything did, and answers the program's exit status.
+pub fn tell<W: Write>(err: &mut W, program: &[u8], failure: u8) -> ExitCode
+    ensures { exit_status result ≡ (if failure == 0 then 0 else 1) }
+{
     if failure == 0 {
-        return;
+        return ExitCode::SUCCESS;
     }
-    io::write_all(STDERR_FILENO, program);
-    io::write_all(STDERR_FILENO, b": ");
-    say(failure);
-    io::write_all(STDERR_FILENO, b"\n");
+    say(err, program);
+    say(err, b": ");
+    say(err, words_of(failure));
+    say(err, b"\n")
 }

@@ -7,10 +7,11 @@ use crate::input::read_on;
 use crate::output::{failed, relieved};
 use crate::places::{behind, between};
 use lines::exchanges::Exchange;
+use std::io::{Read, Write};
 use stock_frame::head::Head;
 use stock_lines::frames::{Ahead, next_frame as ahead};
 
-#[derive(Drop)]
+#[derive(Clone, Copy)]
 pub struct Frames {
     pub feed: Feed,
     // where on the whole line the bytes in hand that are not done with begin
@@ -18,7 +19,7 @@ pub struct Frames {
 }
 
 // A frame: its header, its place on the whole line, and where its bytes and its body stand in the input buffer.
-#[derive(Drop)]
+#[derive(Clone, Copy)]
 pub struct Framed {
     pub head: Head,
     pub place: u64,
@@ -30,7 +31,7 @@ pub struct Framed {
     pub end: usize,
 }
 
-#[derive(Drop)]
+#[derive(Clone, Copy)]
 pub enum FramePull {
     Frame(Frames, Framed),
     // no more frames: the line has ended
@@ -50,7 +51,7 @@ impl Frames {
 }
 
 // What the bytes in hand give.
-#[derive(Drop)]
+#[derive(Clone, Copy)]
 enum Hand {
     One(Frames, Framed),
     Nothing(Frames),
@@ -111,9 +112,9 @@ fn in_hand(buf: &[u8], s: Frames) -> Hand {
 }
 
 // 16, once the text that waits is written.
-fn given_up(out: &[u8], s: Frames) -> FramePull {
+fn given_up<W: Write>(output: &mut W, out: &[u8], s: Frames) -> FramePull {
     let feed = s.feed;
-    let feed = failed(out, feed, FULL);
+    let feed = failed(output, out, feed, FULL);
     let mut s = s;
     s.feed = feed;
     FramePull::Failed(s)
@@ -122,10 +123,16 @@ fn given_up(out: &[u8], s: Frames) -> FramePull {
 // The next frame of a line. The text in the output buffer is written where there is little room left, where the line pauses,
 // and before a failure is answered. A proved loop has to end, and nothing says that standard input does: the loop counts its
 // turns down from a number that no run uses up.
-pub fn next_frame(buf: &mut [u8], out: &[u8], s: Frames) -> FramePull {
+pub fn next_frame<R: Read, W: Write>(
+    input: &mut R,
+    output: &mut W,
+    buf: &mut [u8],
+    out: &[u8],
+    s: Frames,
+) -> FramePull {
     let mut s = s;
     let feed = s.feed;
-    s.feed = relieved(out, feed);
+    s.feed = relieved(output, out, feed);
     let mut turns = u64::MAX;
     while turns > 0 {
         if s.feed.failure != 0 {
@@ -141,10 +148,10 @@ pub fn next_frame(buf: &mut [u8], out: &[u8], s: Frames) -> FramePull {
                 }
                 let feed = rest.feed;
                 s = rest;
-                s.feed = read_on(buf, out, feed);
+                s.feed = read_on(input, output, buf, out, feed);
             }
             Hand::Full(rest) => {
-                return given_up(out, rest);
+                return given_up(output, out, rest);
             }
         }
         turns -= 1;

@@ -1,36 +1,42 @@
-// Standard input in pieces.
+// A line's input in pieces.
 use crate::feed::{Feed, READ};
 use crate::output::{failed, written};
-use libc::STDIN_FILENO;
 use printing::moving::move_down;
+use std::io::{Read, Write};
 
 // A line that pauses: what is known of it is written, so that it is seen while nothing comes.
-fn paused(out: &[u8], f: Feed) -> Feed {
+fn paused<W: Write>(output: &mut W, out: &[u8], f: Feed) -> Feed {
     if f.short {
-        return written(out, f);
+        return written(output, out, f);
     }
     f
 }
 
-// With one piece more, behind the bytes in hand, which move to the front; or closed.
-pub(crate) fn read_on(buf: &mut [u8], out: &[u8], f: Feed) -> Feed {
-    let f = paused(out, f);
+// With one piece more, behind the bytes in hand, which move to the front; or closed. One read gives what is there.
+pub(crate) fn read_on<R: Read, W: Write>(
+    input: &mut R,
+    output: &mut W,
+    buf: &mut [u8],
+    out: &[u8],
+    f: Feed,
+) -> Feed {
+    let f = paused(output, out, f);
     if f.failure != 0 {
         return f;
     }
     let waiting = move_down(buf, f.at, f.end);
     if buf.len() <= waiting {
-        return failed(out, f, READ);
+        return failed(output, out, f, READ);
     }
-    let got = libc::read(STDIN_FILENO, &mut buf[waiting..]);
-    if got < 0 {
-        return failed(out, f, READ);
+    match input.read(&mut buf[waiting..]) {
+        Ok(more) => {
+            let mut f = f;
+            f.at = 0;
+            f.end = waiting + more;
+            f.closed = more == 0;
+            f.short = waiting + more < buf.len();
+            f
+        }
+        Err(_) => failed(output, out, f, READ),
     }
-    let more = io::count(got, &buf[waiting..]);
-    let mut f = f;
-    f.at = 0;
-    f.end = waiting + more;
-    f.closed = more == 0;
-    f.short = waiting + more < buf.len();
-    f
 }

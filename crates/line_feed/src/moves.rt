@@ -8,10 +8,11 @@ use crate::output::{failed, relieved};
 use crate::places::behind;
 use lines::exchanges::Exchange;
 use lines::pieces::stretch_at;
+use std::io::{Read, Write};
 use walk::rows::Row;
 use walk::stretch::Stretch;
 
-#[derive(Drop)]
+#[derive(Clone, Copy)]
 pub struct Moves {
     pub feed: Feed,
     // where on the whole line the bytes in hand that are not done with begin
@@ -20,14 +21,14 @@ pub struct Moves {
 
 // A move, at its place on the whole line, and where its bytes stand in the input buffer. Of skipped bytes it may be several: all
 // that are in hand before the next 27.
-#[derive(Drop)]
+#[derive(Clone, Copy)]
 pub struct Moved {
     pub row: Row,
     pub from: usize,
     pub to: usize,
 }
 
-#[derive(Drop)]
+#[derive(Clone, Copy)]
 pub enum MovePull {
     Move(Moves, Moved),
     // no more moves: the line has ended
@@ -47,7 +48,7 @@ impl Moves {
 }
 
 // What the bytes in hand give.
-#[derive(Drop)]
+#[derive(Clone, Copy)]
 enum Hand {
     One(Moves, Moved),
     Nothing(Moves),
@@ -92,9 +93,9 @@ fn in_hand(buf: &[u8], s: Moves) -> Hand {
 }
 
 // 16, once the text that waits is written.
-fn given_up(out: &[u8], s: Moves) -> MovePull {
+fn given_up<W: Write>(output: &mut W, out: &[u8], s: Moves) -> MovePull {
     let feed = s.feed;
-    let feed = failed(out, feed, FULL);
+    let feed = failed(output, out, feed, FULL);
     let mut s = s;
     s.feed = feed;
     MovePull::Failed(s)
@@ -103,10 +104,16 @@ fn given_up(out: &[u8], s: Moves) -> MovePull {
 // The next move of a line. The text in the output buffer is written where there is little room left, where the line pauses,
 // and before a failure is answered. A proved loop has to end, and nothing says that standard input does: the loop counts its
 // turns down from a number that no run uses up.
-pub fn next_move(buf: &mut [u8], out: &[u8], s: Moves) -> MovePull {
+pub fn next_move<R: Read, W: Write>(
+    input: &mut R,
+    output: &mut W,
+    buf: &mut [u8],
+    out: &[u8],
+    s: Moves,
+) -> MovePull {
     let mut s = s;
     let feed = s.feed;
-    s.feed = relieved(out, feed);
+    s.feed = relieved(output, out, feed);
     let mut turns = u64::MAX;
     while turns > 0 {
         if s.feed.failure != 0 {
@@ -122,10 +129,10 @@ pub fn next_move(buf: &mut [u8], out: &[u8], s: Moves) -> MovePull {
                 }
                 let feed = rest.feed;
                 s = rest;
-                s.feed = read_on(buf, out, feed);
+                s.feed = read_on(input, output, buf, out, feed);
             }
             Hand::Full(rest) => {
-                return given_up(out, rest);
+                return given_up(output, out, rest);
             }
         }
         turns -= 1;

@@ -8,9 +8,10 @@ use crate::input::read_on;
 use crate::output::{failed, relieved};
 use lines::exchanges::Exchange;
 use lines::pieces::next_rows;
+use std::io::{Read, Write};
 use walk::rows::{Kept, Next, Row};
 
-#[derive(Drop)]
+#[derive(Clone, Copy)]
 pub struct Rows {
     pub feed: Feed,
     // what the walk keeps from the pieces before
@@ -19,7 +20,7 @@ pub struct Rows {
     pub later: Row,
 }
 
-#[derive(Drop)]
+#[derive(Clone, Copy)]
 pub enum RowPull {
     Row(Rows, Row),
     // no more rows: the line has ended
@@ -49,7 +50,7 @@ impl Rows {
 }
 
 // What the bytes in hand give.
-#[derive(Drop)]
+#[derive(Clone, Copy)]
 enum Hand {
     One(Rows, Row),
     Nothing(Rows),
@@ -102,9 +103,9 @@ fn ended(s: Rows) -> RowPull {
 }
 
 // 16, once the text that waits is written.
-fn given_up(out: &[u8], s: Rows) -> RowPull {
+fn given_up<W: Write>(output: &mut W, out: &[u8], s: Rows) -> RowPull {
     let feed = s.feed;
-    let feed = failed(out, feed, FULL);
+    let feed = failed(output, out, feed, FULL);
     let mut s = s;
     s.feed = feed;
     RowPull::Failed(s)
@@ -112,7 +113,13 @@ fn given_up(out: &[u8], s: Rows) -> RowPull {
 
 // The next row that is not known yet. A proved loop has to end, and nothing says that standard input does: the loop counts its
 // turns down from a number that no run uses up.
-fn pulled(buf: &mut [u8], out: &[u8], s: Rows) -> RowPull {
+fn pulled<R: Read, W: Write>(
+    input: &mut R,
+    output: &mut W,
+    buf: &mut [u8],
+    out: &[u8],
+    s: Rows,
+) -> RowPull {
     let mut s = s;
     let mut turns = u64::MAX;
     while turns > 0 {
@@ -129,10 +136,10 @@ fn pulled(buf: &mut [u8], out: &[u8], s: Rows) -> RowPull {
                 }
                 let feed = rest.feed;
                 s = rest;
-                s.feed = read_on(buf, out, feed);
+                s.feed = read_on(input, output, buf, out, feed);
             }
             Hand::Full(rest) => {
-                return given_up(out, rest);
+                return given_up(output, out, rest);
             }
         }
         turns -= 1;
@@ -142,13 +149,19 @@ fn pulled(buf: &mut [u8], out: &[u8], s: Rows) -> RowPull {
 
 // The next row of a line. The text in the output buffer is written where there is little room left, where the line pauses, and
 // before a failure is answered.
-pub fn next_row(buf: &mut [u8], out: &[u8], s: Rows) -> RowPull {
+pub fn next_row<R: Read, W: Write>(
+    input: &mut R,
+    output: &mut W,
+    buf: &mut [u8],
+    out: &[u8],
+    s: Rows,
+) -> RowPull {
     let mut s = s;
     let feed = s.feed;
-    s.feed = relieved(out, feed);
+    s.feed = relieved(output, out, feed);
     let later = s.later;
     if later.bytes == 0 {
-        return pulled(buf, out, s);
+        return pulled(input, output, buf, out, s);
     }
     if s.feed.failure != 0 {
         return RowPull::Failed(s);

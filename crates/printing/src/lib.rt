@@ -81,6 +81,9 @@ fn twenty() -> [u8; 20]
     [48; 20]
 }
 
+// The largest number of one digit.
+const ONE_DIGIT: u64 = 9;
+
 // The digits of a number at the end of a buffer of twenty, and the place of the first.
 fn spell(n: u64, digits: &mut [u8]) -> usize
     requires { length digits.old ≡ 20 }
@@ -90,7 +93,7 @@ fn spell(n: u64, digits: &mut [u8]) -> usize
     let mut rest = n;
     while i > 0 {
         digits[i] = 48 + (rest % 10) as u8;
-        if rest <= 9 {
+        if rest <= ONE_DIGIT {
             return i;
         }
         rest /= 10;

@@ -2,6 +2,7 @@
 use line_feed::feed::Feed;
 use line_feed::output::relieved;
 use printing::put_all;
+use std::io::Write;
 use stock_board::{BoardAnswer, LastTrade, Row};
 use stock_board_flat::{ROWS, row_at};
 use stock_quotes::no_pair;
@@ -34,7 +35,14 @@ fn put_used(out: &mut [u8], at: usize, row: Row) -> usize {
 }
 
 // With the row at a place put, if it is in use; written where there is little room for more.
-fn with_row(out: &mut [u8], heads: &[u64], cells: &[u32], feed: Feed, i: usize) -> Feed {
+fn with_row<W: Write>(
+    output: &mut W,
+    out: &mut [u8],
+    heads: &[u64],
+    cells: &[u32],
+    feed: Feed,
+    i: usize,
+) -> Feed {
     let asked = row_at(heads, cells, i);
     let answer = asked.answer;
     match answer {
@@ -43,21 +51,27 @@ fn with_row(out: &mut [u8], heads: &[u64], cells: &[u32], feed: Feed, i: usize) 
             let mut feed = feed;
             let to = put_used(out, feed.to, row);
             feed.to = to;
-            relieved(out, feed)
+            relieved(output, out, feed)
         }
         BoardAnswer::Refused(_) => feed,
     }
 }
 
 // With all rows put in their order, or those before something failed.
-pub(crate) fn put_rows(out: &mut [u8], heads: &[u64], cells: &[u32], feed: Feed) -> Feed {
+pub(crate) fn put_rows<W: Write>(
+    output: &mut W,
+    out: &mut [u8],
+    heads: &[u64],
+    cells: &[u32],
+    feed: Feed,
+) -> Feed {
     let mut feed = feed;
     let mut i = 0;
     while i < ROWS {
         if feed.failure != 0 {
             return feed;
         }
-        feed = with_row(out, heads, cells, feed, i);
+        feed = with_row(output, out, heads, cells, feed, i);
         i += 1;
     }
     feed

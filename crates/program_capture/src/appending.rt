@@ -2,18 +2,22 @@
 ghost use Rattle.std.specs.Prelude.{◌≤◌};
 
 use crate::files::{ROOM, fill, name_synced, open_to_append, store};
-use crate::telling::{tell_bad, tell_failed, tell_full, tell_input, tell_length, tell_stopped};
+use crate::telling::{
+    Telling, tell_bad, tell_failed, tell_full, tell_input, tell_length, tell_stopped,
+};
 use capture::reading::finished;
 use capture::{BLOCK, Held, MOST, PLACES, SIZE};
 use capture_append::{Taken, append, append_cut};
-use libc::STDIN_FILENO;
+use std::fs::File;
+use std::io;
+use std::io::Read;
 
 // What became of a block.
-#[derive(Drop)]
+#[derive(Clone, Copy)]
 enum Kept {
     Done,
-    // the file did not take it
-    Unwritten,
+    // the file did not take it, and why
+    Unwritten(io::Error),
     // 32, as which a refusal is taken: the payload has a right length, and the capture
     Full,
     // 33, and the place of the first bad block
@@ -33,19 +37,19 @@ fn start_of(place: usize) -> usize
     BLOCK * (place - 1)
 }
 
-fn kept_if(done: bool) -> Kept {
-    if done {
-        return Kept::Done;
+fn kept_if(done: io::Result<()>) -> Kept {
+    match done {
+        Ok(()) => Kept::Done,
+        Err(why) => Kept::Unwritten(why),
     }
-    Kept::Unwritten
 }
 
 // The last byte of the number, by which the block is finished, once all else is on the disk.
-fn finish(fd: i32, capture: &mut [u8], payload: &[u8]) -> Kept {
+fn finish(file: &File, capture: &mut [u8], payload: &[u8]) -> Kept {
     match append(capture, payload) {
         Taken::At(place) => {
             let last = start_of(place) + 3;
-            kept_if(store(fd, capture, last, last + 1))
+            kept_if(store(file, capture, last, last + 1))
         }
         Taken::Refused(_) => Kept::Full,
         Taken::Bad(place) => Kept::Bad(place),
@@ -53,15 +57,15 @@ fn finish(fd: i32, capture: &mut [u8], payload: &[u8]) -> Kept {
 }
 
 // Keeps a payload. The first write is of all that the stores but the last leave: until it is synced the disk may have any of them, done
-// in any order, and what is found then is what was found before (order-tells of laws_capture). Then comes the last one, in finish.
-fn keep(fd: i32, capture: &mut [u8], payload: &[u8]) -> Kept {
+// in any order, and what is found then is what was found before (order_tells of laws_capture). Then comes the last one, in finish.
+fn keep(file: &File, capture: &mut [u8], payload: &[u8]) -> Kept {
     match append_cut(capture, payload, BLOCK - 1) {
         Taken::At(place) => {
             let start = start_of(place);
-            if !store(fd, capture, start, start + BLOCK) {
-                return Kept::Unwritten;
+            match store(file, capture, start, start + BLOCK) {
+                Ok(()) => finish(file, capture, payload),
+                Err(why) => Kept::Unwritten(why),
             }
-            finish(fd, capture, payload)
         }
         Taken::Refused(_) => Kept::Full,
         Taken::Bad(place) => Kept::Bad(place),
@@ -69,55 +73,75 @@ fn keep(fd: i32, capture: &mut [u8], payload: &[u8]) -> Kept {
 }
 
 // Keeps a payload, and answers whether it was kept; if not, it is said why.
-fn keep_or_tell(fd: i32, capture: &mut [u8], payload: &[u8], name: &[u8], taken: usize) -> bool {
-    match keep(fd, capture, payload) {
+fn keep_or_tell(
+    told: &mut Telling,
+    file: &File,
+    capture: &mut [u8],
+    payload: &[u8],
+    name: &[u8],
+    taken: usize,
+) -> bool {
+    match keep(file, capture, payload) {
         Kept::Done => true,
-        Kept::Unwritten => {
-            tell_stopped(name, taken);
+        Kept::Unwritten(why) => {
+            tell_stopped(told, name, taken, why);
             false
         }
         Kept::Full => {
-            tell_full(name, taken);
+            tell_full(told, name, taken);
             false
         }
         Kept::Bad(place) => {
-            tell_bad(name, place);
+            tell_bad(told, name, place);
             false
         }
     }
 }
 
 // Says where standard input could not be read on.
-fn tell_if_failed(failed: bool, taken: usize) {
-    if failed {
-        tell_input(taken);
+fn tell_if_failed(told: &mut Telling, failed: Option<io::Error>, taken: usize) {
+    if failed.is_some() {
+        tell_input(told, taken);
     }
 }
 
 // Keeps one block of standard input more, behind so many bytes, and answers whether there may be another. What came before a
 // read that failed is kept.
-fn keep_next(fd: i32, capture: &mut [u8], name: &[u8], taken: usize) -> bool
+fn keep_next<R: Read>(
+    input: &mut R,
+    told: &mut Telling,
+    file: &File,
+    capture: &mut [u8],
+    name: &[u8],
+    taken: usize,
+) -> bool
     requires { taken ≤ 65536 }
 {
     let mut payload = [0u8; MOST];
-    let filled = fill(STDIN_FILENO, &mut payload);
+    let filled = fill(input, &mut payload);
     let n = filled.count;
     if n == 0 {
-        tell_if_failed(filled.failed, taken);
+        tell_if_failed(told, filled.failed, taken);
         return false;
     }
-    if !keep_or_tell(fd, capture, &payload[..n], name, taken) {
+    if !keep_or_tell(told, file, capture, &payload[..n], name, taken) {
         return false;
     }
-    tell_if_failed(filled.failed, taken + n);
+    tell_if_failed(told, filled.failed, taken + n);
     n == MOST
 }
 
 // All blocks but the last are full.
-fn keep_all(fd: i32, capture: &mut [u8], name: &[u8]) {
+fn keep_all<R: Read>(
+    input: &mut R,
+    told: &mut Telling,
+    file: &File,
+    capture: &mut [u8],
+    name: &[u8],
+) {
     let mut blocks = 0;
     while blocks <= PLACES {
-        if !keep_next(fd, capture, name, MOST * blocks) {
+        if !keep_next(input, told, file, capture, name, MOST * blocks) {
             return;
         }
         blocks += 1;
@@ -125,47 +149,60 @@ fn keep_all(fd: i32, capture: &mut [u8], name: &[u8]) {
 }
 
 // Whether it is a capture; if not, it is said why.
-fn is_capture(capture: &[u8], name: &[u8]) -> bool {
+fn is_capture(told: &mut Telling, capture: &[u8], name: &[u8]) -> bool {
     match finished(capture) {
         Held::Blocks(_) => true,
         Held::Refused(_) => {
-            tell_length(name);
+            tell_length(told, name);
             false
         }
         Held::Bad(place) => {
-            tell_bad(name, place);
+            tell_bad(told, name, place);
             false
         }
     }
 }
 
 // Keeps standard input in an open file that holds these bytes.
-fn append_behind(fd: i32, capture: &mut [u8], name: &[u8]) {
-    if !is_capture(capture, name) {
+fn append_behind(
+    rt: &HostRuntime,
+    told: &mut Telling,
+    file: &File,
+    capture: &mut [u8],
+    name: &[u8],
+) {
+    if !is_capture(told, capture, name) {
         return;
     }
-    if !name_synced(name) {
+    if !name_synced(rt, told, name) {
         return;
     }
-    keep_all(fd, capture, name);
+    keep_all(&mut rt.stdin(), told, file, capture, name);
 }
 
-fn append_into(fd: i32, name: &[u8], memory: &mut [u8]) {
-    let filled = fill(fd, memory);
-    if filled.failed {
-        tell_failed(b"read", name);
+fn append_into(
+    rt: &HostRuntime,
+    told: &mut Telling,
+    file: &mut File,
+    name: &[u8],
+    memory: &mut [u8],
+) {
+    let filled = fill(file, memory);
+    if let Some(why) = filled.failed {
+        tell_failed(told, b"read", name, why);
         return;
     }
     let n = filled.count;
-    append_behind(fd, &mut memory[..n], name);
+    append_behind(rt, told, file, &mut memory[..n], name);
 }
 
-pub(crate) fn append_to(name: &[u8]) {
-    let fd = open_to_append(name);
-    if fd < 0 {
-        return;
+pub(crate) fn append_to(rt: &HostRuntime, told: &mut Telling, name: &[u8]) {
+    match open_to_append(rt, told, name) {
+        None => {}
+        Some(file) => {
+            let mut file = file;
+            let mut memory = [0u8; ROOM];
+            append_into(rt, told, &mut file, name, &mut memory);
+        }
     }
-    let mut memory = [0u8; ROOM];
-    append_into(fd, name, &mut memory);
-    libc::close(fd);
 }

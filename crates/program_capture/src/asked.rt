@@ -1,6 +1,9 @@
 // What the arguments ask for.
+ghost use Rattle.std.specs.Prelude.{◌≤◌, length};
 
-#[derive(Drop)]
+use std::env::{Env, FillError};
+
+#[derive(Clone, Copy)]
 pub(crate) enum Asked {
     Append,
     Show,
@@ -14,38 +17,53 @@ pub(crate) enum Asked {
 
 // By one word alone.
 fn asked_alone(word: &[u8]) -> Asked {
-    if check::same(word, b"--help") {
-        return Asked::Help;
+    match word {
+        b"--help" => Asked::Help,
+        b"help" => Asked::Help,
+        _ => Asked::Unknown,
     }
-    if check::same(word, b"help") {
-        return Asked::Help;
-    }
-    Asked::Unknown
 }
 
 // By a word before a file's name.
 fn asked_of_file(word: &[u8]) -> Asked {
-    if check::same(word, b"append") {
-        return Asked::Append;
+    match word {
+        b"append" => Asked::Append,
+        b"show" => Asked::Show,
+        b"verify" => Asked::Verify,
+        _ => Asked::Unknown,
     }
-    if check::same(word, b"show") {
-        return Asked::Show;
+}
+
+// Whether there is an argument of this number, the program's own name being 0.
+fn is_given<E: Env>(env: &E, i: usize) -> bool {
+    match env.arg(i, &mut []) {
+        Ok(_) => true,
+        Err(FillError::TooLong) => true,
+        Err(FillError::NotPresent) => false,
     }
-    if check::same(word, b"verify") {
-        return Asked::Verify;
+}
+
+// An argument, and how many bytes it has; none if it is not there or longer than the buffer.
+pub(crate) fn argument<E: Env>(env: &E, i: usize, buf: &mut [u8]) -> usize
+    ensures { result ≤ length buf.new }
+{
+    match env.arg(i, buf) {
+        Ok(n) => n,
+        Err(_) => 0,
     }
-    Asked::Unknown
 }
 
 // Where the name has so many bytes. A word that is longer than these is read as no bytes.
-pub(crate) fn asked_for(name_bytes: usize) -> Asked {
-    let count = os::arg_count();
+pub(crate) fn asked_for<E: Env>(env: &E, name_bytes: usize) -> Asked {
     let mut word = [0u8; 6];
-    let n = os::arg(1, &mut word);
-    if count == 2 {
+    let n = argument(env, 1, &mut word);
+    if !is_given(env, 1) {
+        return Asked::Unknown;
+    }
+    if !is_given(env, 2) {
         return asked_alone(&word[..n]);
     }
-    if count != 3 {
+    if is_given(env, 3) {
         return Asked::Unknown;
     }
     if name_bytes == 0 {

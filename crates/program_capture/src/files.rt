@@ -1,10 +1,15 @@
 // Files: read whole, made, and written so that what is written is on the disk.
-ghost use Rattle.io.specs.Counts.{IsPrefixLen};
+ghost use Rattle.std.specs.Prelude.{◌≤◌, length};
 
-use crate::telling::{tell_closed, tell_failed, tell_taken};
+use crate::telling::{Telling, tell_closed, tell_failed, tell_taken};
 use capture::SIZE;
-use libc::{EEXIST, ENOENT, STDERR_FILENO};
 use printing::{put_all, put_number};
+use std::fs::{File, OpenOptions};
+use std::io::{ErrorKind, Read, Write};
+use std::os::fd::AsRawFd;
+use std::os::unix::fs::FileExt;
+use std::str::from_utf8;
+use std::{fs, io};
 
 // One byte more than a capture has shows that a file is longer.
 pub(crate) const ROOM: usize = SIZE + 1;
@@ -12,79 +17,117 @@ pub(crate) const ROOM: usize = SIZE + 1;
 // So many names are tried for a file while it is made.
 const NAMES: usize = 100;
 
-// What was read: how many bytes, and whether a read failed behind them.
-#[derive(Drop)]
+// The number of standard error, the last of the three standard streams.
+const STDERR: i32 = 2;
+
+// What was read: how many bytes, and why a read failed behind them, if one did.
+#[derive(Clone, Copy)]
 pub(crate) struct Filled {
     pub(crate) count: usize,
-    pub(crate) failed: bool,
+    pub(crate) failed: Option<io::Error>,
 }
 
 // Reads until the buffer is full, the input ends or a read fails.
-pub(crate) fn fill(fd: i32, buf: &mut [u8]) -> Filled
-    ensures { IsPrefixLen result.count buf.new }
+pub(crate) fn fill<R: Read>(from: &mut R, buf: &mut [u8]) -> Filled
+    ensures { result.count ≤ length buf.new }
 {
     let mut count = 0;
     while count < buf.len() {
-        let got = libc::read(fd, &mut buf[count..]);
-        if got < 0 {
-            return Filled {
-                count,
-                failed: true,
-            };
+        match from.read(&mut buf[count..]) {
+            Ok(more) => {
+                if more == 0 {
+                    return Filled {
+                        count,
+                        failed: None,
+                    };
+                }
+                count += more;
+            }
+            Err(why) => {
+                return Filled {
+                    count,
+                    failed: Some(why),
+                };
+            }
         }
-        let more = io::count(got, &buf[count..]);
-        if more == 0 {
-            return Filled {
-                count,
-                failed: false,
-            };
-        }
-        count += more;
     }
     Filled {
         count,
-        failed: false,
+        failed: None,
     }
+}
+
+// A name as std takes it, which has to be UTF-8.
+fn path_of(name: &[u8]) -> io::Result<&str> {
+    match from_utf8(name) {
+        Ok(path) => Ok(path),
+        Err(_) => Err(io::Error::from(ErrorKind::InvalidFilename)),
+    }
+}
+
+// Opens a file or a folder to be read.
+pub(crate) fn open_to_read(rt: &HostRuntime, name: &[u8]) -> io::Result<File> {
+    OpenOptions::new().read(true).open(rt, path_of(name)?)
+}
+
+// Opens a file that is there to be read and written where it is, its bytes left as they are.
+fn open_to_update(rt: &HostRuntime, name: &[u8]) -> io::Result<File> {
+    OpenOptions::new()
+        .read(true)
+        .write(true)
+        .open(rt, path_of(name)?)
+}
+
+// Makes a file that is not there yet; no link of its name is followed.
+fn create(rt: &HostRuntime, name: &[u8]) -> io::Result<File> {
+    OpenOptions::new()
+        .write(true)
+        .create_new(true)
+        .open(rt, path_of(name)?)
+}
+
+fn rename(rt: &HostRuntime, from: &[u8], to: &[u8]) -> io::Result<()> {
+    fs::rename(rt, path_of(from)?, path_of(to)?)
+}
+
+fn remove(rt: &HostRuntime, name: &[u8]) -> io::Result<()> {
+    fs::remove_file(rt, path_of(name)?)
 }
 
 // Writes a part of a capture at its place in the file, and waits until the disk has it.
-pub(crate) fn store(fd: i32, capture: &[u8], from: usize, to: usize) -> bool {
+pub(crate) fn store(file: &File, capture: &[u8], from: usize, to: usize) -> io::Result<()> {
     if capture.len() < to {
-        return false;
+        return Err(io::Error::from(ErrorKind::InvalidInput));
     }
-    if SIZE < to {
-        return false;
+    if to < from {
+        return Err(io::Error::from(ErrorKind::InvalidInput));
     }
-    let mut at = from;
-    while at < to {
-        let put = io::count(
-            libc::pwrite(fd, &capture[at..to], at as i64),
-            &capture[at..to],
-        );
-        if put == 0 {
-            return false;
-        }
-        at += put;
-    }
-    libc::fdatasync(fd) == 0
+    file.write_all_at(&capture[from..to], from as u64)?;
+    file.sync_data()
 }
 
-// Writes a fresh capture, all zeros, into a new file, and waits until the disk has it.
-fn zeros_stored(fd: i32, name: &[u8]) -> bool {
-    let zeros = io::large_buffer();
-    if !io::write_all(fd, &zeros) {
-        tell_failed(b"write", name);
-        return false;
+// Writes a fresh capture, all zeros, into a new file, waits until the disk has it, and closes the file.
+fn zeros_stored(told: &mut Telling, file: File, name: &[u8]) -> bool {
+    let zeros = [0u8; SIZE];
+    let mut file = file;
+    match file.write_all(&zeros) {
+        Ok(()) => {}
+        Err(why) => {
+            tell_failed(told, b"write", name, why);
+            return false;
+        }
     }
-    if libc::fsync(fd) != 0 {
-        tell_failed(b"sync", name);
-        return false;
+    match file.sync_all() {
+        Ok(()) => true,
+        Err(why) => {
+            tell_failed(told, b"sync", name, why);
+            false
+        }
     }
-    true
 }
 
 // What became of a file that was to be made.
-#[derive(Drop)]
+#[derive(Clone, Copy)]
 enum Made {
     Done,
     // it is said why not
@@ -94,38 +137,44 @@ enum Made {
 }
 
 // Gives the file its own name.
-fn renamed(name: &[u8], new: &[u8]) -> bool {
-    if os::rename(new, name) != 0 {
-        tell_failed(b"make", name);
-        return false;
+fn renamed(rt: &HostRuntime, told: &mut Telling, name: &[u8], new: &[u8]) -> bool {
+    match rename(rt, new, name) {
+        Ok(()) => true,
+        Err(why) => {
+            tell_failed(told, b"make", name, why);
+            false
+        }
     }
-    true
 }
 
-// Makes the file under another name, and gives it its own once it is whole. If that fails it is removed.
-fn make_as(name: &[u8], new: &[u8]) -> Made {
-    let fd = os::create(new);
-    if fd < 0 {
-        if os::errno() == EEXIST {
-            return Made::Taken;
-        }
-        tell_failed(b"make", new);
-        return Made::Failed;
-    }
-    let whole = zeros_stored(fd, new);
-    libc::close(fd);
-    if whole {
-        if renamed(name, new) {
+// Fills the file under its other name, and gives it its own once it is whole. If that fails it is removed.
+fn make_whole(rt: &HostRuntime, told: &mut Telling, file: File, name: &[u8], new: &[u8]) -> Made {
+    if zeros_stored(told, file, new) {
+        if renamed(rt, told, name, new) {
             return Made::Done;
         }
     }
-    os::unlink(new);
+    let _ = remove(rt, new);
     Made::Failed
 }
 
-fn make_named(name: &[u8], new: &[u8], to: usize) -> Made {
+// Makes the file under another name.
+fn make_as(rt: &HostRuntime, told: &mut Telling, name: &[u8], new: &[u8]) -> Made {
+    match create(rt, new) {
+        Ok(file) => make_whole(rt, told, file, name, new),
+        Err(why) => {
+            if why.kind() == ErrorKind::AlreadyExists {
+                return Made::Taken;
+            }
+            tell_failed(told, b"make", new, why);
+            Made::Failed
+        }
+    }
+}
+
+fn make_named(rt: &HostRuntime, told: &mut Telling, name: &[u8], new: &[u8], to: usize) -> Made {
     if to <= new.len() {
-        return make_as(name, &new[0..to]);
+        return make_as(rt, told, name, &new[0..to]);
     }
     Made::Failed
 }
@@ -139,81 +188,104 @@ fn put_try(out: &mut [u8], at: usize, n: usize) -> usize {
 }
 
 // Makes the file by the other name of this number. There is room for the longest name and what is put behind it.
-fn make_by(name: &[u8], n: usize) -> Made {
+fn make_by(rt: &HostRuntime, told: &mut Telling, name: &[u8], n: usize) -> Made {
     let mut new = [0u8; 4104];
     let to = put_all(&mut new, 0, name);
     let to = put_all(&mut new, to, b".new");
     let to = put_try(&mut new, to, n);
-    make_named(name, &new, to)
+    make_named(rt, told, name, &new, to)
 }
 
 // Makes the file of a fresh capture, by the first other name that is free. No file of such a name is changed: it may be a capture, and one
 // that another program appends to.
-fn make(name: &[u8]) -> bool {
+fn make(rt: &HostRuntime, told: &mut Telling, name: &[u8]) -> bool {
     let mut n = 0;
     while n < NAMES {
-        match make_by(name, n) {
+        match make_by(rt, told, name, n) {
             Made::Done => return true,
             Made::Failed => return false,
             Made::Taken => n += 1,
         }
     }
-    tell_taken(name);
+    tell_taken(told, name);
     false
 }
 
-// The file, made if it is not there; -1 once it is said why not.
-fn opened(name: &[u8]) -> i32 {
-    let fd = os::open_update(name);
-    if fd >= 0 {
-        return fd;
+// The file that was just made; none once it is said why not.
+fn reopened(rt: &HostRuntime, told: &mut Telling, name: &[u8]) -> Option<File> {
+    match open_to_update(rt, name) {
+        Ok(file) => Some(file),
+        Err(why) => {
+            tell_failed(told, b"open", name, why);
+            None
+        }
     }
-    if os::errno() != ENOENT {
-        tell_failed(b"open", name);
-        return -1;
+}
+
+// The file, made if it is not there; none once it is said why not.
+fn opened(rt: &HostRuntime, told: &mut Telling, name: &[u8]) -> Option<File> {
+    match open_to_update(rt, name) {
+        Ok(file) => Some(file),
+        Err(why) => {
+            if why.kind() != ErrorKind::NotFound {
+                tell_failed(told, b"open", name, why);
+                return None;
+            }
+            if !make(rt, told, name) {
+                return None;
+            }
+            reopened(rt, told, name)
+        }
     }
-    if !make(name) {
-        return -1;
+}
+
+// The file, unless it stands in for a standard stream that is closed: then it is closed, before anything is said.
+fn unless_standard(file: File) -> Option<File> {
+    if file.as_raw_fd() <= STDERR {
+        return None;
     }
-    let fd = os::open_update(name);
-    if fd < 0 {
-        tell_failed(b"open", name);
-    }
-    fd
+    Some(file)
 }
 
 // The same, and no file that takes the place of a standard stream that is closed: what is said would be written into it.
-pub(crate) fn open_to_append(name: &[u8]) -> i32 {
-    let fd = opened(name);
-    if fd < 0 {
-        return fd;
+pub(crate) fn open_to_append(rt: &HostRuntime, told: &mut Telling, name: &[u8]) -> Option<File> {
+    match opened(rt, told, name) {
+        None => None,
+        Some(file) => match unless_standard(file) {
+            Some(file) => Some(file),
+            None => {
+                tell_closed(told);
+                None
+            }
+        },
     }
-    if fd <= STDERR_FILENO {
-        libc::close(fd);
-        tell_closed();
-        return -1;
+}
+
+// Waits until the disk has the names in an open folder.
+fn names_synced(told: &mut Telling, file: File, folder: &[u8]) -> bool {
+    match file.sync_all() {
+        Ok(()) => true,
+        Err(why) => {
+            tell_failed(told, b"sync", folder, why);
+            false
+        }
     }
-    fd
 }
 
 // Waits until the disk has the names in a folder.
-fn folder_synced(folder: &[u8]) -> bool {
-    let fd = os::open_read(folder);
-    if fd < 0 {
-        tell_failed(b"open", folder);
-        return false;
+fn folder_synced(rt: &HostRuntime, told: &mut Telling, folder: &[u8]) -> bool {
+    match open_to_read(rt, folder) {
+        Ok(file) => names_synced(told, file, folder),
+        Err(why) => {
+            tell_failed(told, b"open", folder, why);
+            false
+        }
     }
-    let done = libc::fsync(fd) == 0;
-    if !done {
-        tell_failed(b"sync", folder);
-    }
-    libc::close(fd);
-    done
 }
 
 // How many bytes of a name are the folder's.
 fn folder_bytes(name: &[u8]) -> usize
-    ensures { IsPrefixLen result name.now }
+    ensures { result ≤ length name.now }
 {
     let mut n = name.len();
     while n > 0 {
@@ -226,10 +298,10 @@ fn folder_bytes(name: &[u8]) -> usize
 }
 
 // Waits until the disk has the file's name. Each run does, since the one that made the file may have been ended before it had.
-pub(crate) fn name_synced(name: &[u8]) -> bool {
+pub(crate) fn name_synced(rt: &HostRuntime, told: &mut Telling, name: &[u8]) -> bool {
     let n = folder_bytes(name);
     if n == 0 {
-        return folder_synced(b".");
+        return folder_synced(rt, told, b".");
     }
-    folder_synced(&name[..n])
+    folder_synced(rt, told, &name[..n])
 }

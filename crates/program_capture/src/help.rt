@@ -1,11 +1,8 @@
 // How the program is used, and what it promises.
-use crate::telling::tell_output;
-use libc::{STDERR_FILENO, STDOUT_FILENO};
+use crate::telling::{Telling, tell_output};
+use std::io::Write;
 
-pub(crate) fn print_help() {
-    let done = io::write_all(
-        STDOUT_FILENO,
-        b"usage: capture append FILE | show FILE | verify FILE | --help
+const HELP: &[u8] = b"usage: capture append FILE | show FILE | verify FILE | --help
 
 append FILE  Keeps standard input in FILE, behind what it holds, in blocks of 504 bytes, the last one
              shorter. FILE is made where there is none. It holds 128 blocks, 64,512 bytes: where it is
@@ -34,16 +31,15 @@ That is as good as the word of the operating system, by fdatasync. Not covered a
 - a sync that fails, which is said: what the device has then is not known,
 - two programs that append to one FILE at a time: no lock is taken,
 - the last bytes of standard input, up to 503, until there are 504 or the input ends.
-",
-    );
-    if !done {
-        tell_output();
+";
+
+pub(crate) fn print_help<W: Write>(told: &mut Telling, output: &mut W) {
+    match output.write_all(HELP) {
+        Ok(()) => {}
+        Err(_) => tell_output(told),
     }
 }
 
-pub(crate) fn tell_usage() {
-    io::write_all(
-        STDERR_FILENO,
-        b"usage: capture append FILE | show FILE | verify FILE | --help\n",
-    );
+pub(crate) fn tell_usage(told: &mut Telling) {
+    told.say(b"usage: capture append FILE | show FILE | verify FILE | --help\n");
 }

@@ -11,25 +11,28 @@ mod showing;
 mod telling;
 
 use appending::append_to;
-use asked::{Asked, asked_for};
+use asked::{Asked, argument, asked_for};
 use help::{print_help, tell_usage};
 use showing::{show, verify};
-use telling::tell_nameless;
+use std::process::ExitCode;
+use telling::{Telling, tell_nameless};
 
 // Does what is asked for with the file of a name.
-fn run(asked: Asked, name: &[u8]) {
+fn run(rt: &HostRuntime, told: &mut Telling, asked: Asked, name: &[u8]) {
     match asked {
-        Asked::Append => append_to(name),
-        Asked::Show => show(name),
-        Asked::Verify => verify(name),
-        Asked::Nameless => tell_nameless(),
-        Asked::Help => print_help(),
-        Asked::Unknown => tell_usage(),
+        Asked::Append => append_to(rt, told, name),
+        Asked::Show => show(rt, told, name),
+        Asked::Verify => verify(rt, told, name),
+        Asked::Nameless => tell_nameless(told),
+        Asked::Help => print_help(told, &mut rt.stdout()),
+        Asked::Unknown => tell_usage(told),
     }
 }
 
-fn main() {
-    let mut name = io::buffer();
-    let n = os::arg(2, &mut name);
-    run(asked_for(n), &name[..n]);
+fn main(rt: HostRuntime) -> ExitCode {
+    let mut told = Telling::new(rt.stderr());
+    let mut name = [0u8; 4096];
+    let n = argument(&rt, 2, &mut name);
+    run(&rt, &mut told, asked_for(&rt, n), &name[..n]);
+    told.status()
 }

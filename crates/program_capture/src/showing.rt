@@ -1,20 +1,23 @@
 // What a file holds.
-ghost use Rattle.io.specs.Counts.{IsPrefixLen};
+ghost use Rattle.std.specs.Prelude.{◌≤◌, length};
 
-use crate::files::{Filled, ROOM, fill};
-use crate::telling::{tell_bad, tell_failed, tell_length, tell_output};
+use crate::files::{Filled, ROOM, fill, open_to_read};
+use crate::telling::{Telling, tell_bad, tell_failed, tell_length, tell_output};
 use capture::reading::{finished, payload_at};
 use capture::{Held, Part};
-use libc::STDOUT_FILENO;
 use printing::{put_all, put_number};
+use std::io::Write;
 
-fn print(out: &[u8], to: usize) {
+// The bytes of the output buffer.
+const LARGE: usize = 65_536;
+
+fn print<W: Write>(output: &mut W, told: &mut Telling, out: &[u8], to: usize) {
     if to <= out.len() {
-        if io::write_all(STDOUT_FILENO, &out[0..to]) {
+        if output.write_all(&out[0..to]).is_ok() {
             return;
         }
     }
-    tell_output();
+    tell_output(told);
 }
 
 // A part of the capture.
@@ -52,94 +55,115 @@ fn put_count(out: &mut [u8], at: usize, key: &[u8], n: usize) -> usize {
     put_number(out, at, n as u64)
 }
 
-fn print_figures(out: &mut [u8], blocks: usize, bytes: usize) {
+fn print_figures<W: Write>(
+    output: &mut W,
+    told: &mut Telling,
+    out: &mut [u8],
+    blocks: usize,
+    bytes: usize,
+) {
     let to = put_count(out, 0, b"{\"finished\":", blocks);
     let to = put_count(out, to, b",\"bytes\":", bytes);
     let to = put_all(out, to, b"}\n");
-    print(out, to);
+    print(output, told, out, to);
 }
 
 // 33
-fn print_bad(out: &mut [u8], place: usize) {
+fn print_bad<W: Write>(output: &mut W, told: &mut Telling, out: &mut [u8], place: usize) {
     let to = put_count(out, 0, b"{\"answer\":33,\"place\":", place);
     let to = put_all(out, to, b"}\n");
-    print(out, to);
+    print(output, told, out, to);
 }
 
 // 34
-fn print_length(out: &mut [u8]) {
+fn print_length<W: Write>(output: &mut W, told: &mut Telling, out: &mut [u8]) {
     let to = put_all(out, 0, b"{\"answer\":34}\n");
-    print(out, to);
+    print(output, told, out, to);
 }
 
-fn show_bytes(out: &mut [u8], capture: &[u8], name: &[u8]) {
+fn show_bytes<W: Write>(
+    output: &mut W,
+    told: &mut Telling,
+    out: &mut [u8],
+    capture: &[u8],
+    name: &[u8],
+) {
     match finished(capture) {
         Held::Blocks(n) => {
             let to = put_payloads(out, capture, n);
-            print(out, to);
+            print(output, told, out, to);
         }
-        Held::Refused(_) => tell_length(name),
-        Held::Bad(place) => tell_bad(name, place),
+        Held::Refused(_) => tell_length(told, name),
+        Held::Bad(place) => tell_bad(told, name, place),
     }
 }
 
-fn verify_bytes(out: &mut [u8], capture: &[u8], name: &[u8]) {
+fn verify_bytes<W: Write>(
+    output: &mut W,
+    told: &mut Telling,
+    out: &mut [u8],
+    capture: &[u8],
+    name: &[u8],
+) {
     match finished(capture) {
         Held::Blocks(n) => {
             let bytes = put_payloads(out, capture, n);
-            print_figures(out, n, bytes);
+            print_figures(output, told, out, n, bytes);
         }
         Held::Refused(_) => {
-            print_length(out);
-            tell_length(name);
+            print_length(output, told, out);
+            tell_length(told, name);
         }
         Held::Bad(place) => {
-            print_bad(out, place);
-            tell_bad(name, place);
+            print_bad(output, told, out, place);
+            tell_bad(told, name, place);
         }
     }
 }
 
 // The bytes of a file; where they cannot be read it is said why.
-fn read_file(name: &[u8], memory: &mut [u8]) -> Filled
-    ensures { IsPrefixLen result.count memory.new }
+fn read_file(rt: &HostRuntime, told: &mut Telling, name: &[u8], memory: &mut [u8]) -> Filled
+    ensures { result.count ≤ length memory.new }
 {
-    let fd = os::open_read(name);
-    if fd < 0 {
-        tell_failed(b"open", name);
-        return Filled {
-            count: 0,
-            failed: true,
-        };
+    match open_to_read(rt, name) {
+        Ok(file) => {
+            let mut file = file;
+            let filled = fill(&mut file, memory);
+            if let Some(why) = filled.failed {
+                tell_failed(told, b"read", name, why);
+            }
+            filled
+        }
+        Err(why) => {
+            tell_failed(told, b"open", name, why);
+            Filled {
+                count: 0,
+                failed: Some(why),
+            }
+        }
     }
-    let filled = fill(fd, memory);
-    if filled.failed {
-        tell_failed(b"read", name);
-    }
-    libc::close(fd);
-    filled
 }
 
 // Prints the bytes of all finished blocks.
-pub(crate) fn show(name: &[u8]) {
+pub(crate) fn show(rt: &HostRuntime, told: &mut Telling, name: &[u8]) {
     let mut memory = [0u8; ROOM];
-    let mut out = io::large_buffer();
-    let filled = read_file(name, &mut memory);
-    if filled.failed {
+    let mut out = [0u8; LARGE];
+    let filled = read_file(rt, told, name, &mut memory);
+    if filled.failed.is_some() {
         return;
     }
     let n = filled.count;
-    show_bytes(&mut out, &memory[..n], name);
+    show_bytes(&mut rt.stdout(), told, &mut out, &memory[..n], name);
 }
 
 // Prints how many blocks are finished and how many bytes they have, or what is wrong.
-pub(crate) fn verify(name: &[u8]) {
+pub(crate) fn verify(rt: &HostRuntime, told: &mut Telling, name: &[u8]) {
     let mut memory = [0u8; ROOM];
-    let mut out = io::large_buffer();
-    let filled = read_file(name, &mut memory);
-    if filled.failed {
+    let mut out = [0u8; LARGE];
+    let filled = read_file(rt, told, name, &mut memory);
+    if filled.failed.is_some() {
         return;
     }
     let n = filled.count;
-    verify_bytes(&mut out, &memory[..n], name);
+    verify_bytes(&mut rt.stdout(), told, &mut out, &memory[..n], name);
 }

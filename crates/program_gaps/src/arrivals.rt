@@ -7,7 +7,7 @@ use line_feed::frames::Framed;
 use stock_reading::reading::SIX;
 
 // A day so far, beside the ends of its ledger.
-#[derive(Drop)]
+#[derive(Clone, Copy)]
 pub(crate) struct Day {
     // whether the lowest run is given up for an arrival that is answered 22
     pub(crate) gives_up: bool,

@@ -1,6 +1,8 @@
 // What the arguments ask for.
+use line_feed::asked::is_given;
+use std::env::{Env, FillError};
 
-#[derive(Drop)]
+#[derive(Clone, Copy)]
 pub(crate) enum Asked {
     // no argument: arrivals that the ledger has no room for are told
     Told,
@@ -10,18 +12,23 @@ pub(crate) enum Asked {
     Unknown,
 }
 
-// One that is longer than the word give-up is read as no bytes.
-pub(crate) fn asked_for() -> Asked {
-    let count = os::arg_count();
-    if count < 2 {
-        return Asked::Told;
+// By the first argument.
+fn asked_by(word: &[u8]) -> Asked {
+    match word {
+        b"give-up" => Asked::GivenUp,
+        _ => Asked::Unknown,
     }
-    if count == 2 {
-        let mut word = [0u8; 7];
-        let n = os::arg(1, &mut word);
-        if check::same(&word[..n], b"give-up") {
-            return Asked::GivenUp;
-        }
+}
+
+// A word that is longer than give-up is another one.
+pub(crate) fn asked_for<E: Env>(env: &E) -> Asked {
+    if is_given(env, 2) {
+        return Asked::Unknown;
     }
-    Asked::Unknown
+    let mut word = [0u8; 7];
+    match env.arg(1, &mut word) {
+        Ok(n) => asked_by(&word[..n]),
+        Err(FillError::TooLong) => Asked::Unknown,
+        Err(FillError::NotPresent) => Asked::Told,
+    }
 }

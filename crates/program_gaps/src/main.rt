@@ -10,26 +10,34 @@ mod report;
 use arrivals::{Day, with_frame};
 use asked::{Asked, asked_for};
 use ledger::Ledger;
-use libc::STDERR_FILENO;
-use line_feed::feed::{Feed, READ, tell};
+use line_feed::feed::{Feed, LARGE, READ, say, tell};
 use line_feed::frames::{FramePull, Frames, next_frame};
 use line_feed::output::written;
 use report::put_report;
+use std::io::{Read, Write};
+use std::process::ExitCode;
 
 // What a whole line has come to: its feed, and the day.
-#[derive(Drop)]
+#[derive(Clone, Copy)]
 struct Heard {
     feed: Feed,
     day: Day,
 }
 
 // Hears a whole line into a ledger. Nothing is put before all of it is heard.
-fn hear(buf: &mut [u8], out: &[u8], ends: &mut [u32], gives_up: bool) -> Heard {
+fn hear<R: Read, W: Write>(
+    input: &mut R,
+    output: &mut W,
+    buf: &mut [u8],
+    out: &[u8],
+    ends: &mut [u32],
+    gives_up: bool,
+) -> Heard {
     let mut day = Day::fresh(gives_up);
     let mut s = Frames::fresh();
     let mut turns = u64::MAX;
     while turns > 0 {
-        match next_frame(buf, out, s) {
+        match next_frame(input, output, buf, out, s) {
             FramePull::Frame(later, framed) => {
                 day = with_frame(day, ends, buf, framed);
                 s = later;
@@ -51,10 +59,16 @@ fn hear(buf: &mut [u8], out: &[u8], ends: &mut [u32], gives_up: bool) -> Heard {
 }
 
 // Puts the report of a whole line, and answers what failed, or 0.
-fn put_line(buf: &mut [u8], out: &mut [u8], gives_up: bool) -> u8 {
+fn put_line<R: Read, W: Write>(
+    input: &mut R,
+    output: &mut W,
+    buf: &mut [u8],
+    out: &mut [u8],
+    gives_up: bool,
+) -> u8 {
     let fresh = ledger::clear();
     let mut ends = fresh.ends;
-    let heard = hear(buf, out, &mut ends, gives_up);
+    let heard = hear(input, output, buf, out, &mut ends, gives_up);
     let feed = heard.feed;
     if feed.failure != 0 {
         return feed.failure;
@@ -68,23 +82,27 @@ fn put_line(buf: &mut [u8], out: &mut [u8], gives_up: bool) -> u8 {
     let mut feed = feed;
     let to = put_report(out, ledger, day);
     feed.to = to;
-    let feed = written(out, feed);
+    let feed = written(output, out, feed);
     feed.failure
 }
 
-fn report_gaps(gives_up: bool) {
-    let mut buf = io::large_buffer();
-    let mut out = io::large_buffer();
-    let failure = put_line(&mut buf, &mut out, gives_up);
-    tell(b"gaps", failure);
+fn report_gaps(rt: &HostRuntime, gives_up: bool) -> ExitCode {
+    let mut buf = [0u8; LARGE];
+    let mut out = [0u8; LARGE];
+    let failure = put_line(
+        &mut rt.stdin(),
+        &mut rt.stdout(),
+        &mut buf,
+        &mut out,
+        gives_up,
+    );
+    tell(&mut rt.stderr(), b"gaps", failure)
 }
 
-fn main() {
-    match asked_for() {
-        Asked::Told => report_gaps(false),
-        Asked::GivenUp => report_gaps(true),
-        Asked::Unknown => {
-            io::write_all(STDERR_FILENO, b"gaps: the only argument is give-up\n");
-        }
+fn main(rt: HostRuntime) -> ExitCode {
+    match asked_for(&rt) {
+        Asked::Told => report_gaps(&rt, false),
+        Asked::GivenUp => report_gaps(&rt, true),
+        Asked::Unknown => say(&mut rt.stderr(), b"gaps: the only argument is give-up\n"),
     }
 }

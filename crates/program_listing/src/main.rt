@@ -6,16 +6,18 @@
 mod rows;
 
 use line_feed::asked::{Asked, asked_for};
-use line_feed::feed::{ARGUMENT, READ, tell};
+use line_feed::feed::{ARGUMENT, LARGE, READ, tell};
 use line_feed::output::written;
 use line_feed::rows::{RowPull, Rows, next_row};
 use lines::exchanges::Exchange;
 use rows::{put_header, put_row, put_total};
+use std::io::{Read, Write};
+use std::process::ExitCode;
 use walk::rows::Row;
 use walk::tally::Tally;
 
 // What a listing has come to.
-#[derive(Drop)]
+#[derive(Clone, Copy)]
 struct Listing {
     rows: Rows,
     total: Tally,
@@ -43,27 +45,33 @@ fn with_row(out: &mut [u8], total: Tally, rows: Rows, row: Row) -> Listing {
 }
 
 // With the total, all written; what failed, or 0.
-fn ended(out: &mut [u8], total: Tally, rows: Rows) -> u8 {
+fn ended<W: Write>(output: &mut W, out: &mut [u8], total: Tally, rows: Rows) -> u8 {
     let mut feed = rows.feed;
     let to = put_total(out, feed.to, total);
     feed.to = to;
-    let feed = written(out, feed);
+    let feed = written(output, out, feed);
     feed.failure
 }
 
 // Puts the listing of a whole line of an exchange, and answers what failed, or 0.
-fn put_line(buf: &mut [u8], out: &mut [u8], exchange: Exchange) -> u8 {
+fn put_line<R: Read, W: Write>(
+    input: &mut R,
+    output: &mut W,
+    buf: &mut [u8],
+    out: &mut [u8],
+    exchange: Exchange,
+) -> u8 {
     let mut l = begun(out, exchange);
     let mut turns = u64::MAX;
     while turns > 0 {
         let total = l.total;
         let rows = l.rows;
-        match next_row(buf, out, rows) {
+        match next_row(input, output, buf, out, rows) {
             RowPull::Row(later, row) => {
                 l = with_row(out, total, later, row);
             }
             RowPull::End(last) => {
-                return ended(out, total, last);
+                return ended(output, out, total, last);
             }
             RowPull::Failed(last) => {
                 return last.feed.failure;
@@ -74,16 +82,22 @@ fn put_line(buf: &mut [u8], out: &mut [u8], exchange: Exchange) -> u8 {
     READ
 }
 
-fn list(exchange: Exchange) {
-    let mut buf = io::large_buffer();
-    let mut out = io::large_buffer();
-    let failure = put_line(&mut buf, &mut out, exchange);
-    tell(b"listing", failure);
+fn list(rt: &HostRuntime, exchange: Exchange) -> ExitCode {
+    let mut buf = [0u8; LARGE];
+    let mut out = [0u8; LARGE];
+    let failure = put_line(
+        &mut rt.stdin(),
+        &mut rt.stdout(),
+        &mut buf,
+        &mut out,
+        exchange,
+    );
+    tell(&mut rt.stderr(), b"listing", failure)
 }
 
-fn main() {
-    match asked_for() {
-        Asked::Line(exchange) => list(exchange),
-        Asked::Unknown => tell(b"listing", ARGUMENT),
+fn main(rt: HostRuntime) -> ExitCode {
+    match asked_for(&rt) {
+        Asked::Line(exchange) => list(&rt, exchange),
+        Asked::Unknown => tell(&mut rt.stderr(), b"listing", ARGUMENT),
     }
 }

@@ -8,6 +8,7 @@ use line_feed::moves::{MovePull, Moved, Moves, next_move};
 use line_feed::output::written;
 use lines::exchanges::Exchange;
 use printing::{put, put_all};
+use std::io::{Read, Write};
 use stock_texts::counts::put_count;
 use stock_texts::values::{put_hundredths, put_string, put_thousandths};
 
@@ -81,11 +82,16 @@ fn put_moved(out: &mut [u8], at: usize, buf: &[u8], moved: Moved) -> usize {
 }
 
 // Puts the objects of a whole line, and answers what failed, or 0.
-pub(crate) fn put_index_line(buf: &mut [u8], out: &mut [u8]) -> u8 {
+pub(crate) fn put_index_line<R: Read, W: Write>(
+    input: &mut R,
+    output: &mut W,
+    buf: &mut [u8],
+    out: &mut [u8],
+) -> u8 {
     let mut s = Moves::fresh(Exchange::Derivatives);
     let mut turns = u64::MAX;
     while turns > 0 {
-        match next_move(buf, out, s) {
+        match next_move(input, output, buf, out, s) {
             MovePull::Move(later, moved) => {
                 let to = put_moved(out, later.feed.to, buf, moved);
                 s = later;
@@ -93,7 +99,7 @@ pub(crate) fn put_index_line(buf: &mut [u8], out: &mut [u8]) -> u8 {
             }
             MovePull::End(last) => {
                 let feed = last.feed;
-                let feed = written(out, feed);
+                let feed = written(output, out, feed);
                 return feed.failure;
             }
             MovePull::Failed(last) => {

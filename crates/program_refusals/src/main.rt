@@ -10,14 +10,16 @@ mod reasons;
 mod runs;
 
 use line_feed::asked::{Asked, asked_for};
-use line_feed::feed::{ARGUMENT, READ, tell};
+use line_feed::feed::{ARGUMENT, LARGE, READ, tell};
 use line_feed::moves::{MovePull, next_move};
 use lines::exchanges::Exchange;
 use objects::SHOWN;
 use runs::{Walked, ended, with_move};
+use std::io::{Read, Write};
+use std::process::ExitCode;
 
 // What a line comes to by one move more.
-#[derive(Drop)]
+#[derive(Clone, Copy)]
 enum Turn {
     On(Walked),
     // at its end, or where something failed: what failed, or 0
@@ -25,16 +27,23 @@ enum Turn {
 }
 
 // Takes the next move of a line.
-fn turned(buf: &mut [u8], out: &mut [u8], first: &mut [u8], w: Walked) -> Turn {
+fn turned<R: Read, W: Write>(
+    input: &mut R,
+    output: &mut W,
+    buf: &mut [u8],
+    out: &mut [u8],
+    first: &mut [u8],
+    w: Walked,
+) -> Turn {
     let run = w.run;
     let moves = w.moves;
-    match next_move(buf, out, moves) {
+    match next_move(input, output, buf, out, moves) {
         MovePull::Move(later, moved) => {
-            let walked = with_move(out, first, buf, run, later, moved);
+            let walked = with_move(output, out, first, buf, run, later, moved);
             Turn::On(walked)
         }
         MovePull::End(last) => {
-            let failure = ended(out, first, run, last);
+            let failure = ended(output, out, first, run, last);
             Turn::Over(failure)
         }
         MovePull::Failed(last) => Turn::Over(last.feed.failure),
@@ -43,11 +52,18 @@ fn turned(buf: &mut [u8], out: &mut [u8], first: &mut [u8], w: Walked) -> Turn {
 
 // Puts the objects of a whole line of an exchange, and answers what failed, or 0. The first bytes of a run are held in a buffer of
 // their own.
-fn put_line(buf: &mut [u8], out: &mut [u8], first: &mut [u8], exchange: Exchange) -> u8 {
+fn put_line<R: Read, W: Write>(
+    input: &mut R,
+    output: &mut W,
+    buf: &mut [u8],
+    out: &mut [u8],
+    first: &mut [u8],
+    exchange: Exchange,
+) -> u8 {
     let mut w = Walked::fresh(exchange);
     let mut turns = u64::MAX;
     while turns > 0 {
-        match turned(buf, out, first, w) {
+        match turned(input, output, buf, out, first, w) {
             Turn::On(later) => {
                 w = later;
             }
@@ -60,17 +76,24 @@ fn put_line(buf: &mut [u8], out: &mut [u8], first: &mut [u8], exchange: Exchange
     READ
 }
 
-fn tell_why(exchange: Exchange) {
-    let mut buf = io::large_buffer();
-    let mut out = io::large_buffer();
-    let mut first = [0; SHOWN];
-    let failure = put_line(&mut buf, &mut out, &mut first, exchange);
-    tell(b"refusals", failure);
+fn tell_why(rt: &HostRuntime, exchange: Exchange) -> ExitCode {
+    let mut buf = [0u8; LARGE];
+    let mut out = [0u8; LARGE];
+    let mut first = [0u8; SHOWN];
+    let failure = put_line(
+        &mut rt.stdin(),
+        &mut rt.stdout(),
+        &mut buf,
+        &mut out,
+        &mut first,
+        exchange,
+    );
+    tell(&mut rt.stderr(), b"refusals", failure)
 }
 
-fn main() {
-    match asked_for() {
-        Asked::Line(exchange) => tell_why(exchange),
-        Asked::Unknown => tell(b"refusals", ARGUMENT),
+fn main(rt: HostRuntime) -> ExitCode {
+    match asked_for(&rt) {
+        Asked::Line(exchange) => tell_why(&rt, exchange),
+        Asked::Unknown => tell(&mut rt.stderr(), b"refusals", ARGUMENT),
     }
 }

@@ -5,17 +5,18 @@ use line_feed::moves::{Moved, Moves};
 use line_feed::output::{failed, written};
 use lines::exchanges::Exchange;
 use printing::put_all;
+use std::io::Write;
 use walk::rows::{Kept, Row, Told};
 
 // The skipped bytes since the last frame, and how many of the first ones are held.
-#[derive(Drop)]
+#[derive(Clone, Copy)]
 pub(crate) struct Run {
     kept: Kept,
     held: usize,
 }
 
 // What a line has come to.
-#[derive(Drop)]
+#[derive(Clone, Copy)]
 pub(crate) struct Walked {
     pub(crate) moves: Moves,
     pub(crate) run: Run,
@@ -68,16 +69,17 @@ fn behind_frame(moves: Moves, to: usize, kept: Kept) -> Walked {
 }
 
 // 16, once the text that waits is written.
-fn given_up(out: &[u8], moves: Moves, run: Run) -> Walked {
+fn given_up<W: Write>(output: &mut W, out: &[u8], moves: Moves, run: Run) -> Walked {
     let feed = moves.feed;
-    let feed = failed(out, feed, FULL);
+    let feed = failed(output, out, feed, FULL);
     let mut moves = moves;
     moves.feed = feed;
     Walked { moves, run }
 }
 
 // With one move more.
-pub(crate) fn with_move(
+pub(crate) fn with_move<W: Write>(
+    output: &mut W,
     out: &mut [u8],
     first: &mut [u8],
     buf: &[u8],
@@ -105,7 +107,7 @@ pub(crate) fn with_move(
             let to = put_frame(out, to, exchange, buf, row, moved);
             behind_frame(moves, to, kept)
         }
-        Told::Full => given_up(out, moves, run),
+        Told::Full => given_up(output, out, moves, run),
     }
 }
 
@@ -120,11 +122,17 @@ fn put_last(out: &mut [u8], at: usize, exchange: Exchange, first: &[u8], run: Ru
 }
 
 // With the last bytes, all written; what failed, or 0.
-pub(crate) fn ended(out: &mut [u8], first: &[u8], run: Run, moves: Moves) -> u8 {
+pub(crate) fn ended<W: Write>(
+    output: &mut W,
+    out: &mut [u8],
+    first: &[u8],
+    run: Run,
+    moves: Moves,
+) -> u8 {
     let mut feed = moves.feed;
     let exchange = feed.exchange;
     let to = put_last(out, feed.to, exchange, first, run);
     feed.to = to;
-    let feed = written(out, feed);
+    let feed = written(output, out, feed);
     feed.failure
 }

@@ -3,24 +3,42 @@
 
 mod rows;
 
-use libc::{STDERR_FILENO, STDOUT_FILENO};
 use rows::put_table;
+use std::env::{Env, FillError};
+use std::io::Write;
+use std::process::ExitCode;
 
 // The bytes of the text.
 const TEXT: usize = 1024;
 
-fn print_table() {
-    let mut out = [0; TEXT];
+// Says a text on standard error, and answers the exit status of a program that had something to say there, said or not.
+fn say<W: Write>(err: &mut W, text: &[u8]) -> ExitCode {
+    let _ = err.write_all(text);
+    ExitCode::FAILURE
+}
+
+fn print_table<W: Write, E: Write>(output: &mut W, err: &mut E) -> ExitCode {
+    let mut out = [0u8; TEXT];
     let to = put_table(&mut out, 0);
-    if !io::write_all(STDOUT_FILENO, &out[..to]) {
-        io::write_all(STDERR_FILENO, b"table: cannot write standard output\n");
+    match output.write_all(&out[..to]) {
+        Ok(()) => ExitCode::SUCCESS,
+        Err(_) => say(err, b"table: cannot write standard output\n"),
     }
 }
 
-fn main() {
-    if os::arg_count() < 2 {
-        print_table();
+// Whether there is an argument behind the program's name.
+fn is_given<E: Env>(env: &E) -> bool {
+    match env.arg(1, &mut []) {
+        Ok(_) => true,
+        Err(FillError::TooLong) => true,
+        Err(FillError::NotPresent) => false,
+    }
+}
+
+fn main(rt: HostRuntime) -> ExitCode {
+    if is_given(&rt) {
+        say(&mut rt.stderr(), b"table: takes no argument\n")
     } else {
-        io::write_all(STDERR_FILENO, b"table: takes no argument\n");
+        print_table(&mut rt.stdout(), &mut rt.stderr())
     }
 }

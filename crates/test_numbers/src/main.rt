@@ -10,9 +10,10 @@ mod streams;
 use ledger::{Ledger, clear};
 use ledger_arrivals::arrive;
 use ledger_give_up::give_up;
-use libc::STDERR_FILENO;
 use lines::{put_arrival, put_give_up, put_ledger, put_lent};
-use streams::{Input, MOST, MUCH, read_all, written};
+use std::io::{Read, Write};
+use std::process::ExitCode;
+use streams::{Input, LARGE, MOST, MUCH, read_all, say, written};
 
 // The places of a record's numbers: its ends stand below this one, and nothing stands here.
 const ENDS: usize = 129;
@@ -24,7 +25,7 @@ const GIVEN: usize = 131;
 
 // The ledger, and the line so far: whether it gives up, a record and the place of its next number, then a number, if it has a
 // digit.
-#[derive(Drop)]
+#[derive(Clone, Copy)]
 struct State {
     ledger: Ledger,
     gives_up: bool,
@@ -168,13 +169,13 @@ fn take_byte(out: &mut [u8], state: State, b: u8) -> State {
 }
 
 // Answers whether standard output took all the text.
-fn take_all(input: &[u8], out: &mut [u8]) -> bool {
+fn take_all<W: Write>(output: &mut W, input: &[u8], out: &mut [u8]) -> bool {
     let mut state = line(clear(), 0);
     let mut i = 0;
     while i < input.len() {
         state = take_byte(out, state, input[i]);
         if MUCH <= state.to {
-            if !written(out, state.to) {
+            if !written(output, out, state.to) {
                 return false;
             }
             state.to = 0;
@@ -183,32 +184,37 @@ fn take_all(input: &[u8], out: &mut [u8]) -> bool {
     }
     let ledger = state.ledger;
     let to = put_ledger(out, state.to, ledger);
-    written(out, to)
-}
-
-fn say(text: &[u8]) {
-    io::write_all(STDERR_FILENO, text);
+    written(output, out, to)
 }
 
 // Takes the first n bytes, unless they are too many.
-fn take(input: &[u8], n: usize, out: &mut [u8]) {
+fn take<W: Write, E: Write>(
+    output: &mut W,
+    err: &mut E,
+    input: &[u8],
+    n: usize,
+    out: &mut [u8],
+) -> ExitCode {
     if MOST < n {
-        say(b"numbers: more than 65,536 bytes\n");
-        return;
+        return say(err, b"numbers: more than 65,536 bytes\n");
     }
     if n <= input.len() {
-        if !take_all(&input[0..n], out) {
-            say(b"numbers: cannot write standard output\n");
+        if !take_all(output, &input[0..n], out) {
+            return say(err, b"numbers: cannot write standard output\n");
         }
+    }
+    ExitCode::SUCCESS
+}
+
+fn run<R: Read, W: Write, E: Write>(stream: &mut R, output: &mut W, err: &mut E) -> ExitCode {
+    let mut input = [0u8; 65537];
+    let mut out = [0u8; LARGE];
+    match read_all(stream, &mut input) {
+        Input::Bytes(n) => take(output, err, &input, n, &mut out),
+        Input::Failed => say(err, b"numbers: cannot read standard input\n"),
     }
 }
 
-fn main() {
-    let mut input = [0u8; 65537];
-    let mut out = io::large_buffer();
-    let read = read_all(&mut input);
-    match read {
-        Input::Bytes(n) => take(&input, n, &mut out),
-        Input::Failed => say(b"numbers: cannot read standard input\n"),
-    }
+fn main(rt: HostRuntime) -> ExitCode {
+    run(&mut rt.stdin(), &mut rt.stdout(), &mut rt.stderr())
 }

@@ -9,10 +9,11 @@ mod lines;
 mod streams;
 
 use answers::Answer;
-use libc::STDERR_FILENO;
 use printing::{put, put_all, put_number};
+use std::io::{Read, Write};
+use std::process::ExitCode;
 use stock_reading::reading::{read, read_halt, read_notice, read_prices, read_quote};
-use streams::{Input, MOST, MUCH, read_all, written};
+use streams::{Input, LARGE, MOST, MUCH, read_all, say, written};
 
 // The message of an accepted frame.
 fn put_message(frame: &[u8], format: u8, out: &mut [u8], at: usize) -> usize {
@@ -72,7 +73,7 @@ fn end_of(start: usize, length: usize, n: usize) -> usize
 }
 
 // A line for each record. Answers whether standard output took them all.
-fn put_records(input: &[u8], out: &mut [u8]) -> bool {
+fn put_records<W: Write>(output: &mut W, input: &[u8], out: &mut [u8]) -> bool {
     let mut to = 0;
     let mut at = 0;
     while at + 2 <= input.len() {
@@ -82,39 +83,44 @@ fn put_records(input: &[u8], out: &mut [u8]) -> bool {
         to = put_reading(&input[start..end], out, to);
         to = put(out, to, b'\n');
         if MUCH <= to {
-            if !written(out, to) {
+            if !written(output, out, to) {
                 return false;
             }
             to = 0;
         }
         at = end;
     }
-    written(out, to)
-}
-
-fn say(text: &[u8]) {
-    io::write_all(STDERR_FILENO, text);
+    written(output, out, to)
 }
 
 // Prints what the first n bytes are, unless they are too many.
-fn print(input: &[u8], n: usize, out: &mut [u8]) {
+fn print<W: Write, E: Write>(
+    output: &mut W,
+    err: &mut E,
+    input: &[u8],
+    n: usize,
+    out: &mut [u8],
+) -> ExitCode {
     if MOST < n {
-        say(b"worked: more than 65,536 bytes\n");
-        return;
+        return say(err, b"worked: more than 65,536 bytes\n");
     }
     if n <= input.len() {
-        if !put_records(&input[0..n], out) {
-            say(b"worked: cannot write standard output\n");
+        if !put_records(output, &input[0..n], out) {
+            return say(err, b"worked: cannot write standard output\n");
         }
+    }
+    ExitCode::SUCCESS
+}
+
+fn run<R: Read, W: Write, E: Write>(stream: &mut R, output: &mut W, err: &mut E) -> ExitCode {
+    let mut input = [0u8; 65537];
+    let mut out = [0u8; LARGE];
+    match read_all(stream, &mut input) {
+        Input::Bytes(n) => print(output, err, &input, n, &mut out),
+        Input::Failed => say(err, b"worked: cannot read standard input\n"),
     }
 }
 
-fn main() {
-    let mut input = [0u8; 65537];
-    let mut out = io::large_buffer();
-    let read = read_all(&mut input);
-    match read {
-        Input::Bytes(n) => print(&input, n, &mut out),
-        Input::Failed => say(b"worked: cannot read standard input\n"),
-    }
+fn main(rt: HostRuntime) -> ExitCode {
+    run(&mut rt.stdin(), &mut rt.stdout(), &mut rt.stderr())
 }

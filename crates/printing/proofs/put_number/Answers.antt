@@ -1,6 +1,4 @@
--- `put_number` meets its contract.
-use Prim.Native.Nat.{◌-◌}
-use native.Mathlib.Omega.{arith}
+use Rattle.std.proofs.Common.{◌-◌, arith}
 use borrow.Author.Tests.{le-leb}
 use Rattle.printing.proofs.TextLaws.{puts-tail}
 use Rattle.printing.proofs.put_number.Goals as goal
@@ -10,6 +8,6 @@ returns-then-n-le9 c = rw (le-leb c.args.n 9 c.if-n-le9.true) c.put.ensures
 
 pub returns : goal.returns
 returns c =
-    let a = c.args in
-    let buf = c.spell-first.new.digits in
-    puts-tail a.n (20 - c.spell-first.result) c.spell-first.result a.at c.put_all.result buf a.out.now c.put_all.new.out (omega (arith, c.spell-first.ensures.0)) c.spell-first.ensures.2 c.put_all.ensures
+    let first = c.spell-first in
+    puts-tail c.args.n (20 - first.result) first.result c.args.at c.put_all.result first.new.digits c.args.out.now c.put_all.new.out
+    (omega (arith, first.ensures.0)) first.ensures.2 c.put_all.ensures

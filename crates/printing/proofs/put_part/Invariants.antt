@@ -1,6 +1,5 @@
--- `text::put_part` meets its contract: up to each turn the text's first bytes are put.
-use Prim.Native.Nat.{◌-◌}
-use lib.ListN.{length, take}
+-- Up to each turn the text's first bytes are put.
+use Rattle.std.proofs.Common.{◌-◌, length, take}
 use Rattle.printing.specs.Text.{Puts}
 use Rattle.printing.proofs.put_part.Given as goal
 

@@ -1,5 +1,5 @@
--- `moving::move_down` meets its contract: at each turn so many bytes are moved.
-use Prim.Native.Nat.{◌-◌}
+-- At each turn so many bytes are moved.
+use Rattle.std.proofs.Common.{◌-◌}
 use Rattle.printing.proofs.MovingLaws.{Moved}
 use Rattle.printing.proofs.moving.move_down.Given as goal
 

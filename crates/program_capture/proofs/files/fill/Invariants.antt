@@ -1,0 +1,9 @@
+-- What was read lies within the buffer, which keeps its length.
+use Rattle.std.proofs.Common.{length, ◌-◌, ◌≤◌}
+use Rattle.program_capture.proofs.files.fill.Given as goal
+
+abbrev pub invariant-loop-count : goal.invariant-loop-count
+invariant-loop-count g l = l.count ≤ length l.buf
+
+abbrev pub decreases-loop-count : goal.decreases-loop-count
+decreases-loop-count g l = length l.buf - l.count
