@@ -6,6 +6,6 @@ use Rattle.c_walking.proofs.trivsome_walk.Goals as goal
 
 pub returns : goal.returns
 returns c = let w = c.walked-w.ensures in record {
-      value = ap (λ (t : Tallied). t.answer) w;
-      tally_after = ap (λ (t : Tallied). tally_numbers t.tally) w;
-    }
+  value = ap (λ (t : Tallied). t.answer) w;
+  tally_after = ap (λ (t : Tallied). tally_numbers t.tally) w;
+}
