@@ -1,5 +1,4 @@
 -- `clear` meets its contract. The loop's invariant: the bytes from k on are all zero exactly where those from the start on are.
-use Prim.Native.Nat.{◌-◌}
 use mathlib.Core.Path.{sym, ◌∙◌}
 use native.Mathlib.Omega.{arith}
 use Rattle.stock_notices_write.proofs.WriteSteps.{zeros-broken, zeros-next, zeros-end}

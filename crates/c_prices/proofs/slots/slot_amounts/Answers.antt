@@ -1,5 +1,5 @@
 -- `slots::slot_amounts` meets its contract. The loop's invariant: putting what the slots from i on tell is putting what all tell.
-use Prim.Native.Nat.{ℕ, ◌-◌, ◌*◌}
+use Prim.Native.Nat.{ℕ, ◌*◌}
 use mathlib.Core.Path.{◌≡◌, refl, sym, ap, ◌∙◌}
 use mathlib.Core.List.{List}
 use native.Mathlib.Omega.{arith}

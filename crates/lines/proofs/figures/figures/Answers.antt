@@ -1,5 +1,4 @@
 -- `figures::figures` meets its contract: what is counted and what is ahead are the walk's figures together.
-use Prim.Native.Nat.{◌-◌}
 use native.Mathlib.Omega.{arith}
 use borrow.Author.Rules.{rules}
 use Rattle.walk.proofs.TurnLaws.{Turn, stays_within, counted-begins, counted-ends, counted-stops, counted-moves}

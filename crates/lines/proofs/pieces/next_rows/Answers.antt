@@ -1,5 +1,4 @@
 -- `pieces::next_rows` meets its contract: what is still to give stays the same from turn to turn.
-use Prim.Native.Nat.{◌-◌}
 use mathlib.Core.Path.{◌∙◌}
 use native.Mathlib.Omega.{arith}
 use borrow.Author.Rules.{rules}
