@@ -37,7 +37,7 @@ pub record Edges : Type 0 where
   pub notice-accepted : answer_of (notice 0x19 0x0A) ≡ Accepted (record { format = 5; seq = 1; length = 14 })
   pub notice-means : message_by five_codec no_notice (notice 0x19 0x0A) ≡ record { seq = 1; category = 9; length = 0; text = replicate 60 0 }
   pub check-byte-18 : answer_of (notice 0x18 0x0A) ≡ NoFrame 5 None
-  pub last-byte-0_b : answer_of (notice 0x19 0x0B) ≡ NoFrame 4 None
+  pub last-byte-0B : answer_of (notice 0x19 0x0B) ≡ NoFrame 4 None
   pub first-13 : answer_of (take 13 (notice 0x19 0x0A)) ≡ NoFrame 2 None
   pub halt-accepted : answer_of halted ≡ Accepted (record { format = 19; seq = 1; length = 26 })
   pub halt-means : message_by nineteen_codec no_halt halted
