@@ -1,7 +1,8 @@
 -- A price, a quantity and a pair at a place, by the first byte and the halves of the others.
+use Rattle.std.specs.Prelude.{None, Option, Some}
 use Prim.Native.Nat.{ℕ, suc, ◌+◌, ◌*◌, ◌^◌, ◌≤◌, ◌<◌}
 use mathlib.Core.Path.{◌≡◌, refl, sym, ap, ap₂, ◌∙◌}
-use mathlib.Core.Bool.{Bool, true, false, cond, ◌&&◌, and_assoc, and-false}
+use mathlib.Core.Bool.{Bool, true, false, cond, ◌&&◌, and_assoc}
 use mathlib.Core.List.{List, ◌∷◌}
 use native.Mathlib.Omega.{arith}
 use lib.Dec.{leb}
@@ -10,15 +11,12 @@ use lib.Seq.{length-take-le}
 use borrow.Author.Tests.{le-leb, lt-leb}
 use Rattle.digits.specs.Packed.{good, value, good_field}
 use Rattle.words.specs.Blocks.{block_of}
-use Rattle.amounts.specs.Amounts.{price_digits, quantity_digits, as_price, as_quantity, price_of, quantity_of, pair_of, price_at, quantity_at, pair_at}
+use Rattle.amounts.specs.Amounts.{price_digits, quantity_digits, as_price, as_quantity, price_of, pair_of, price_at, pair_at}
 use Rattle.words.specs.declared.blocks.Block.{Block}
-use Rattle.amounts.specs.declared.PriceField.{PriceField}
-use Rattle.amounts.specs.declared.QuantityField.{QuantityField}
-use Rattle.amounts.specs.declared.PairField.{PairField}
 use Rattle.digits.proofs.Places.{inside, take-first}
-use Rattle.digits.proofs.Bools.{and_left}
-use Rattle.digits.proofs.PackedLaws.{value-lt}
 use Rattle.digits.proofs.Values.{value-digit, good-split, even-field, odd-field}
+use Rattle.amounts.specs.declared.Price.{Price}
+use Rattle.amounts.specs.declared.Pair.{Pair}
 
 -- the n bytes from a place inside are n
 length_at : (n at : ℕ) (s : List ℕ) → at + n ≤ length s → length (take n (drop at s)) ≡ n
@@ -43,16 +41,9 @@ module _ {A : Type 0} (n at : ℕ) (s : List ℕ) (h : at + suc n ≤ length s) 
   first-over : 9 < first s at → no ≡ cond (leb (at + suc n) (length s)) (of (take (suc n) (drop at s))) no
   first-over l = reads false (ap (λ (b : Bool). b && good (rest n s at)) (lt-leb (first s at) 9 l))
 
-  rest-bad : good (rest n s at) ≡ false → no ≡ cond (leb (at + suc n) (length s)) (of (take (suc n) (drop at s))) no
-  rest-bad g = reads false (ap (λ (b : Bool). leb (first s at) 9 && b) g ∙ and-false (leb (first s at) 9))
-
   all-good : first s at ≤ 9 → good (rest n s at) ≡ true
       → yes ≡ cond (leb (at + suc n) (length s)) (of (take (suc n) (drop at s))) no
   all-good l g = reads true (ap₂ ◌&&◌ (le-leb (first s at) 9 l) g)
-
--- four good bytes are worth less than 10 ^ 8
-four_below : (bs : List ℕ) → length bs ≡ 4 → good bs ≡ true → value bs < 100000000
-four_below bs e g = rw e at (value-lt bs g)
 
 -- one digit before four bytes
 five-value : (b : ℕ) (bs : List ℕ) → length bs ≡ 4 → b ≤ 9 → b * 100000000 + value bs ≡ value (b ∷ bs)
@@ -71,41 +62,20 @@ module _ (at : ℕ) (s : List ℕ) (h : at + 5 ≤ length s) where
   four-long : length (rest 4 s at) ≡ 4
   four-long = length_at 4 (at + 1) s (omega arith)
 
-  abbrev price-yes : PriceField
-  price-yes = PriceField.Is (as_price (value (first s at ∷ rest 4 s at)))
+  abbrev price-yes : Option Price
+  price-yes = Some (as_price (value (first s at ∷ rest 4 s at)))
 
-  price-tested : price_of (first s at ∷ rest 4 s at) ≡ cond (leb (first s at) 9 && good (rest 4 s at)) price-yes PriceField.Bad
-  price-tested = ap (λ (t : Bool). cond t price-yes PriceField.Bad) (price-test (first s at) (rest 4 s at) four-long)
+  price-tested : price_of (first s at ∷ rest 4 s at) ≡ cond (leb (first s at) 9 && good (rest 4 s at)) price-yes None
+  price-tested = ap (λ (t : Bool). cond t price-yes None) (price-test (first s at) (rest 4 s at) four-long)
 
-  pub price-over : 9 < first s at → PriceField.Bad ≡ price_at s at
-  price-over = first-over 4 at s h price_of price-yes PriceField.Bad price-tested
+  pub price-over : 9 < first s at → None ≡ price_at s at
+  price-over = first-over 4 at s h price_of price-yes None price-tested
 
   module _ {r : Block} (e : r ≡ block_of 0 (rest 4 s at)) where
-    pub price-bad : r.good ≡ false → PriceField.Bad ≡ price_at s at
-    price-bad g = rest-bad 4 at s h price_of price-yes PriceField.Bad price-tested (rw e at g)
-
-    pub price-fits : r.good ≡ true → r.last < 100000000
-    price-fits g = rw e (four_below (rest 4 s at) four-long (rw e at g))
-
-    pub price-is : first s at ≤ 9 → r.good ≡ true → PriceField.Is (as_price (first s at * 100000000 + r.last)) ≡ price_at s at
+    pub price-is : first s at ≤ 9 → r.good ≡ true → Some (as_price (first s at * 100000000 + r.last)) ≡ price_at s at
     price-is l g =
-        ap (λ (v : ℕ). PriceField.Is (as_price v)) (rw e (five-value (first s at) (rest 4 s at) four-long l))
-        ∙ all-good 4 at s h price_of price-yes PriceField.Bad price-tested l (rw e at g)
-
--- a quantity at a place, from what its four bytes hold
-module _ (at : ℕ) (s : List ℕ) (h : at + 4 ≤ length s) {r : Block} (e : r ≡ block_of 0 (take 4 (drop at s))) where
-  quantity-reads : (t : Bool) → r.good ≡ t → cond t (QuantityField.Is (as_quantity r.last)) QuantityField.Bad ≡ quantity_at s at
-  quantity-reads t g =
-      rw e
-      (sym (inside 4 at s (quantity_of (take 4 (drop at s))) QuantityField.Bad h
-      ∙ ap (λ (b : Bool). cond b (QuantityField.Is (as_quantity (value (take 4 (drop at s))))) QuantityField.Bad)
-      (quantity-test (take 4 (drop at s)) (length_at 4 at s h) ∙ rw e at g)))
-
-  pub quantity-bad : r.good ≡ false → QuantityField.Bad ≡ quantity_at s at
-  quantity-bad = quantity-reads false
-
-  pub quantity-is : r.good ≡ true → QuantityField.Is (as_quantity r.last) ≡ quantity_at s at
-  quantity-is = quantity-reads true
+        ap (λ (v : ℕ). Some (as_price v)) (rw e (five-value (first s at) (rest 4 s at) four-long l))
+        ∙ all-good 4 at s h price_of price-yes None price-tested l (rw e at g)
 
 -- a pair at a place, from its first byte and what the other eight hold
 module _ (at : ℕ) (s : List ℕ) (h : at + 9 ≤ length s) where
@@ -124,28 +94,22 @@ module _ (at : ℕ) (s : List ℕ) (h : at + 9 ≤ length s) where
   back_long : length back ≡ 4
   back_long = rw (length-drop, eight-long)
 
-  abbrev pair-yes : PairField
-  pair-yes = PairField.Is (record { price = as_price (value (first s at ∷ front)); quantity = as_quantity (value back) })
+  abbrev pair-yes : Option Pair
+  pair-yes = Some (record { price = as_price (value (first s at ∷ front)); quantity = as_quantity (value back) })
 
-  pair-tested : pair_of (first s at ∷ rest 8 s at) ≡ cond (leb (first s at) 9 && good (rest 8 s at)) pair-yes PairField.Bad
+  pair-tested : pair_of (first s at ∷ rest 8 s at) ≡ cond (leb (first s at) 9 && good (rest 8 s at)) pair-yes None
   pair-tested =
-      ap (λ (t : Bool). cond t pair-yes PairField.Bad)
+      ap (λ (t : Bool). cond t pair-yes None)
       (ap₂ ◌&&◌ (price-test (first s at) front front_long) (quantity-test back back_long)
       ∙ and_assoc (leb (first s at) 9) (good front) (good back)
       ∙ ap (λ (t : Bool). leb (first s at) 9 && t) (good-split 4 (rest 8 s at)))
 
-  pub pair-over : 9 < first s at → PairField.Bad ≡ pair_at s at
-  pair-over = first-over 8 at s h pair_of pair-yes PairField.Bad pair-tested
+  pub pair-over : 9 < first s at → None ≡ pair_at s at
+  pair-over = first-over 8 at s h pair_of pair-yes None pair-tested
 
   module _ {r : Block} (e : r ≡ block_of 4 (rest 8 s at)) where
-    pub pair-bad : r.good ≡ false → PairField.Bad ≡ pair_at s at
-    pair-bad g = rest-bad 8 at s h pair_of pair-yes PairField.Bad pair-tested (rw e at g)
-
-    pub pair_fits : r.good ≡ true → r.first < 100000000
-    pair_fits g = rw e (four_below front front_long (and_left (good front) (good back) (good-split 4 (rest 8 s at) ∙ rw e at g)))
-
     pub pair_is : first s at ≤ 9 → r.good ≡ true
-        → PairField.Is (record { price = as_price (first s at * 100000000 + r.first); quantity = as_quantity r.last }) ≡ pair_at s at
+        → Some (record { price = as_price (first s at * 100000000 + r.first); quantity = as_quantity r.last }) ≡ pair_at s at
     pair_is l g =
-        ap₂ (λ (v w : ℕ). PairField.Is (record { price = as_price v; quantity = as_quantity w })) (rw e (five-value (first s at) front front_long l)) (rw e refl)
-        ∙ all-good 8 at s h pair_of pair-yes PairField.Bad pair-tested l (rw e at g)
+        ap₂ (λ (v w : ℕ). Some (record { price = as_price v; quantity = as_quantity w })) (rw e (five-value (first s at) front front_long l)) (rw e refl)
+        ∙ all-good 8 at s h pair_of pair-yes None pair-tested l (rw e at g)

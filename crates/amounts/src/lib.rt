@@ -31,47 +31,22 @@ pub struct Pair {
     pub quantity: Quantity,
 }
 
-#[derive(Clone, Copy)]
-pub enum PriceField {
-    Is(Price),
-    Bad,
-}
-
-#[derive(Clone, Copy)]
-pub enum QuantityField {
-    Is(Quantity),
-    Bad,
-}
-
-#[derive(Clone, Copy)]
-pub enum PairField {
-    Is(Pair),
-    Bad,
-}
-
 impl Price {
     // 99,999.9999
     pub const MOST: u32 = 999_999_999;
 
     // The five bytes of a price, 9(5)V9(4).
-    pub fn from_digits(s: &[u8], at: usize) -> PriceField
+    pub fn from_digits(s: &[u8], at: usize) -> Option<Price>
         ensures { result ≡ price_at s.now at }
     {
-        if s.len() < 5 {
-            return PriceField::Bad;
-        }
-        if at > s.len() - 5 {
-            return PriceField::Bad;
-        }
-        let b = s[at];
-        if b > NINE {
-            return PriceField::Bad;
+        if s.len() < 5 || s.len() - 5 < at || NINE < s[at] {
+            return None;
         }
         let h = four_at(s, at + 1);
         if h.good {
-            PriceField::Is(Price((b as u32) * ABOVE_EIGHT + h.last))
+            Some(Price(s[at] as u32 * ABOVE_EIGHT + h.last))
         } else {
-            PriceField::Bad
+            None
         }
     }
 }
@@ -81,21 +56,14 @@ impl Quantity {
     pub const MOST: u32 = 99_999_999;
 
     // The four bytes of a quantity, 9(8).
-    pub fn from_digits(s: &[u8], at: usize) -> QuantityField
+    pub fn from_digits(s: &[u8], at: usize) -> Option<Quantity>
         ensures { result ≡ quantity_at s.now at }
     {
-        if s.len() < 4 {
-            return QuantityField::Bad;
-        }
-        if at > s.len() - 4 {
-            return QuantityField::Bad;
+        if s.len() < 4 || s.len() - 4 < at {
+            return None;
         }
         let h = four_at(s, at);
-        if h.good {
-            QuantityField::Is(Quantity(h.last))
-        } else {
-            QuantityField::Bad
-        }
+        if h.good { Some(Quantity(h.last)) } else { None }
     }
 }
 
@@ -106,27 +74,20 @@ impl Thousandths {
 
 impl Pair {
     // The nine bytes of a price and a quantity.
-    pub fn from_digits(s: &[u8], at: usize) -> PairField
+    pub fn from_digits(s: &[u8], at: usize) -> Option<Pair>
         ensures { result ≡ pair_at s.now at }
     {
-        if s.len() < 9 {
-            return PairField::Bad;
-        }
-        if at > s.len() - 9 {
-            return PairField::Bad;
-        }
-        let b = s[at];
-        if b > NINE {
-            return PairField::Bad;
+        if s.len() < 9 || s.len() - 9 < at || NINE < s[at] {
+            return None;
         }
         let h = eight_at(s, at + 1);
         if h.good {
-            PairField::Is(Pair {
-                price: Price((b as u32) * ABOVE_EIGHT + h.first),
+            Some(Pair {
+                price: Price(s[at] as u32 * ABOVE_EIGHT + h.first),
                 quantity: Quantity(h.last),
             })
         } else {
-            PairField::Bad
+            None
         }
     }
 }

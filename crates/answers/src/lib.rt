@@ -4,8 +4,6 @@
 ghost use Rattle.std.specs.Prelude.{◌≡◌};
 ghost use Rattle.answers.specs.Answers.{answer_number, answer_length, answer_place};
 
-use digits::halves::Place;
-
 // An accepted frame: its whole length in bytes, its format and its number. In this order they lie where a refusal has its length and
 // its place, so that an answer is handed on in whole registers.
 #[derive(Clone, Copy)]
@@ -15,15 +13,15 @@ pub struct Frame {
     pub seq: u32,
 }
 
-// What a reading says.
+// What a reading says. The numbers stay numbers: who takes an answer takes one of any number, which an enum of the causes would narrow.
 #[derive(Clone, Copy)]
 pub enum Answer {
     // 0
     Accepted(Frame),
     // 1 to 5: no whole frame stands here; beside 3 the place of the first bad digit, where one is the cause
-    NoFrame(u8, Place),
+    NoFrame(u8, Option<u32>),
     // 6 to 13, with the length: a whole frame that breaks a rule; beside 6 and 11 the place of the first bad digit
-    Refused(u8, usize, Place),
+    Refused(u8, usize, Option<u32>),
 }
 
 impl Answer {
@@ -31,8 +29,7 @@ impl Answer {
     pub fn number(self) -> u8
         ensures { result ≡ answer_number self }
     {
-        let answer = self;
-        match answer {
+        match self {
             Answer::Accepted(_) => 0,
             Answer::NoFrame(n, _) => n,
             Answer::Refused(n, _, _) => n,
@@ -43,8 +40,7 @@ impl Answer {
     pub fn length(self) -> usize
         ensures { result ≡ answer_length self }
     {
-        let answer = self;
-        match answer {
+        match self {
             Answer::Accepted(f) => f.length,
             Answer::NoFrame(_, _) => 0,
             Answer::Refused(_, l, _) => l,
@@ -52,23 +48,20 @@ impl Answer {
     }
 
     // Where the first bad digit is, in halves from the frame's first byte, if it speaks of one.
-    pub fn place(self) -> Place
+    pub fn place(self) -> Option<u32>
         ensures { result ≡ answer_place self }
     {
-        let answer = self;
-        match answer {
-            Answer::Accepted(_) => Place::None,
+        match self {
+            Answer::Accepted(_) => None,
             Answer::NoFrame(_, p) => p,
             Answer::Refused(_, _, p) => p,
         }
     }
 }
 
-// What a writing says.
+// Why a message is not written; else the answer is 0, with the frame's length.
 #[derive(Clone, Copy)]
-pub enum Written {
-    // 0, with the frame's length
-    Done(usize),
+pub enum WriteError {
     // 14: the message breaks a rule
     Illegal,
     // 15: the buffer is too short

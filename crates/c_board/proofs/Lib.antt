@@ -1,4 +1,3 @@
 -- The laws that the proofs cite, and the theorems that belong to no one function.
-pub mod LentLaws
 pub mod RowsLaws
 pub mod Determined

@@ -8,39 +8,43 @@ ghost use Rattle.stock_quotes_numbers.specs.Numbers.{quote_from};
 ghost use Rattle.c_board.specs.Outcomes.{answer_outcome, rows_outcome};
 ghost use Rattle.c_board.specs.Lent.{lent_bytes, lent_time, lent_amounts};
 
-use stock_board::{Asked, BoardAnswer, InUse};
+use stock_board::{BoardError, Row};
 use stock_board_flat::keeping::kept;
 use stock_board_flat::{ask, clear, in_use, row_at, take};
 use stock_quotes_numbers::{quote_amounts, quote_bytes, quote_of};
 
 // Of an answer, which has nothing beside it.
-fn answer_outcome(answer: BoardAnswer) -> u64
+fn answer_outcome(answer: Result<(), BoardError>) -> u64
     ensures { result ≡ answer_outcome answer }
 {
     match answer {
-        BoardAnswer::Done => 0,
-        BoardAnswer::Refused(n) => n as u64,
+        Ok(()) => 0,
+        Err(e) => u64::from(e.number()),
     }
 }
 
 // The answer to a question for a row. Where it is 0, lent memory takes the row's numbers, those of the quote that it is kept as.
-fn lend(asked: Asked, bytes: &mut [u8; 9], time: &mut u64, amounts: &mut [u32; 23]) -> u64
-    ensures value { result ≡ answer_outcome asked.answer }
+fn lend(
+    asked: Result<Row, BoardError>,
+    bytes: &mut [u8; 9],
+    time: &mut u64,
+    amounts: &mut [u32; 23],
+) -> u64
+    ensures value { result ≡ answer_outcome asked }
     ensures bytes_after { bytes.new ≡ lent_bytes asked bytes.old }
     ensures time_after { time.new ≡ lent_time asked time.old }
     ensures amounts_after { amounts.new ≡ lent_amounts asked amounts.old }
 {
-    let answer = asked.answer;
-    let outcome = answer_outcome(answer);
-    if outcome != 0 {
-        return outcome;
+    match asked {
+        Ok(row) => {
+            let q = kept(row);
+            *bytes = quote_bytes(q);
+            *time = q.time;
+            *amounts = quote_amounts(q);
+            0
+        }
+        Err(e) => u64::from(e.number()),
     }
-    let row = asked.row;
-    let q = kept(row);
-    *bytes = quote_bytes(q);
-    *time = q.time;
-    *amounts = quote_amounts(q);
-    outcome
 }
 
 // Makes every row free: 0 or 50.
@@ -76,7 +80,7 @@ pub fn trivsome_board_ask_numbers(
     time: &mut u64,
     amounts: &mut [u32; 23],
 ) -> u64
-    ensures value { result ≡ answer_outcome (asked_flat (flat heads.now cells.now) code.now).answer }
+    ensures value { result ≡ answer_outcome (asked_flat (flat heads.now cells.now) code.now) }
     ensures bytes_after { bytes.new ≡ lent_bytes (asked_flat (flat heads.now cells.now) code.now) bytes.old }
     ensures time_after { time.new ≡ lent_time (asked_flat (flat heads.now cells.now) code.now) time.old }
     ensures amounts_after { amounts.new ≡ lent_amounts (asked_flat (flat heads.now cells.now) code.now) amounts.old }
@@ -93,7 +97,7 @@ pub fn trivsome_board_row_numbers(
     time: &mut u64,
     amounts: &mut [u32; 23],
 ) -> u64
-    ensures value { result ≡ answer_outcome (row_at_flat (flat heads.now cells.now) place).answer }
+    ensures value { result ≡ answer_outcome (row_at_flat (flat heads.now cells.now) place) }
     ensures bytes_after { bytes.new ≡ lent_bytes (row_at_flat (flat heads.now cells.now) place) bytes.old }
     ensures time_after { time.new ≡ lent_time (row_at_flat (flat heads.now cells.now) place) time.old }
     ensures amounts_after { amounts.new ≡ lent_amounts (row_at_flat (flat heads.now cells.now) place) amounts.old }
@@ -105,9 +109,8 @@ pub fn trivsome_board_row_numbers(
 pub fn trivsome_board_rows(heads: &[u64], cells: &[u32]) -> u64
     ensures { result ≡ rows_outcome (in_use_flat (flat heads.now cells.now)) }
 {
-    let rows = in_use(heads, cells);
-    match rows {
-        InUse::Rows(n) => 256 * (n as u64),
-        InUse::Refused(n) => n as u64,
+    match in_use(heads, cells) {
+        Ok(n) => 256 * (n as u64),
+        Err(e) => u64::from(e.number()),
     }
 }

@@ -1,4 +1,5 @@
 -- An outcome tells what it was made from: nothing of an answer is lost in its one number.
+use Rattle.std.specs.Prelude.{Result, Ok, Err, ⊤}
 use Prim.Native.Nat.{ℕ, ◌+◌, ◌*◌, ◌≤◌}
 use mathlib.Core.Path.{◌≡◌, refl, ◌∙◌}
 use mathlib.Core.Bool.{Bool, true, false, cond}
@@ -6,12 +7,12 @@ use mathlib.Core.List.{List, [], ◌∷◌}
 use native.Mathlib.Omega.{arith}
 use lib.Dec.{eqb}
 use Rattle.capture.specs.Captures.{whole}
-use Rattle.capture.specs.declared.Cleared.{Cleared}
-use Rattle.capture.specs.declared.Held.{Held}
+use Rattle.capture.specs.declared.OtherSize.{OtherSize}
+use Rattle.capture.specs.declared.Unsound.{Unsound}
 use Rattle.capture.specs.declared.Part.{Part}
-use Rattle.capture.specs.Calls.{cleared_number, cleared_of, held_number, held_values, held_of, part_number, part_values, part_of}
+use Rattle.capture.specs.Calls.{cleared_number, cleared_of, other_size, part_from, held_number, held_values, held_of, part_number, part_values, part_of}
 use Rattle.capture_append.specs.Appending.{taken_number, taken_values, taken_of}
-use Rattle.capture_append.specs.declared.Taken.{Taken}
+use Rattle.capture_append.specs.declared.AppendError.{AppendError}
 use Rattle.c_capture.specs.Outcomes.{cleared_outcome, bad_outcome, taken_outcome, held_outcome, part_outcome, number_part, place_part, count_part, length_part, start_part}
 use Rattle.c_capture.proofs.RangeLaws.{of-appends, of-counts, of-payloads}
 
@@ -25,7 +26,7 @@ pub bad-back : (p : ℕ) → p ≤ 128 → (number_part (bad_outcome p) ≡ 33) 
 bad-back p few = (omega arith, omega arith, omega arith)
 
 -- beside 0, a payload's length and where it begins, and no place
-pub bytes_back : (start n : ℕ) → n ≤ 504 → let x = part_outcome (Part.Bytes start n) in
+pub bytes_back : (start n : ℕ) → n ≤ 504 → let x = part_outcome (Ok (part_from start n)) in
     (number_part x ≡ 0) × (place_part x ≡ 0) × (length_part x ≡ n) × (start_part x ≡ start)
 bytes_back start n few = (omega arith, omega arith, omega arith, omega arith)
 
@@ -39,23 +40,28 @@ none q e = let z : ◌≡◌ {A = ℕ} 0 1 = cc in absurd (omega (arith, z))
 
 -- ---- clearing
 -- the answer that its outcome tells
-abbrev pub cleared_in : ℕ → Cleared
-cleared_in x = cond (eqb (number_part x) 0) Cleared.Done (Cleared.Refused (number_part x))
+abbrev pub cleared_in : ℕ → Result ⊤ OtherSize
+cleared_in x = cond (eqb (number_part x) 0) (Ok tt) (Err other_size)
 
 -- the outcome tells the answer, and has its number
 pub clear-back : (m : List ℕ) → (cleared_in (cleared_outcome (cleared_of m)) ≡ cleared_of m) × (number_part (cleared_outcome (cleared_of m)) ≡ cleared_number (cleared_of m))
 clear-back m = go (whole m)
   where
-    go : (t : Bool) → let c = cond t Cleared.Done (Cleared.Refused 34) in (cleared_in (cleared_outcome c) ≡ c) × (number_part (cleared_outcome c) ≡ cleared_number c)
+    go : (t : Bool) → let c = cond t (Ok tt) (Err other_size) in (cleared_in (cleared_outcome c) ≡ c) × (number_part (cleared_outcome c) ≡ cleared_number c)
     go true = (refl, refl)
     go false = (refl, refl)
 
 -- ---- appends
 -- the answer that an append's outcome tells
-abbrev taken_by : ℕ → ℕ → Taken
-taken_by n p = cond (eqb n 0) (Taken.At p) (cond (eqb n 33) (Taken.Bad p) (Taken.Refused n))
+abbrev refused_by : ℕ → ℕ → AppendError
+refused_by n p =
+    cond (eqb n 33) (AppendError.Unsound (Unsound.BadBlock p))
+    (cond (eqb n 34) (AppendError.Unsound Unsound.WrongSize) (cond (eqb n 31) AppendError.PayloadLength AppendError.Full))
 
-abbrev pub taken_in : ℕ → Taken
+abbrev taken_by : ℕ → ℕ → Result ℕ AppendError
+taken_by n p = cond (eqb n 0) (Ok p) (Err (refused_by n p))
+
+abbrev pub taken_in : ℕ → Result ℕ AppendError
 taken_in x = taken_by (number_part x) (place_part x)
 
 -- an append's outcome tells the answer
@@ -76,10 +82,13 @@ append-told =
 
 -- ---- how many blocks are finished
 -- the answer that its outcome tells
-abbrev held_by : ℕ → ℕ → Held
-held_by n p = cond (eqb n 0) (Held.Blocks p) (cond (eqb n 33) (Held.Bad p) (Held.Refused n))
+abbrev unsound_by : ℕ → ℕ → Unsound
+unsound_by n p = cond (eqb n 33) (Unsound.BadBlock p) Unsound.WrongSize
 
-abbrev pub held_in : ℕ → Held
+abbrev held_by : ℕ → ℕ → Result ℕ Unsound
+held_by n p = cond (eqb n 0) (Ok p) (Err (unsound_by n p))
+
+abbrev pub held_in : ℕ → Result ℕ Unsound
 held_in x = held_by (number_part x) (count_part x)
 
 -- the outcome tells the answer
@@ -100,10 +109,10 @@ finished-told =
 
 -- ---- payloads
 -- the answer that a payload's outcome tells
-abbrev part_by : ℕ → ℕ → ℕ → ℕ → Part
-part_by n p start length = cond (eqb n 0) (Part.Bytes start length) (cond (eqb n 33) (Part.Bad p) (Part.Refused n))
+abbrev part_by : ℕ → ℕ → ℕ → ℕ → Result Part Unsound
+part_by n p start length = cond (eqb n 0) (Ok (part_from start length)) (Err (unsound_by n p))
 
-abbrev pub part_in : ℕ → Part
+abbrev pub part_in : ℕ → Result Part Unsound
 part_in x = part_by (number_part x) (place_part x) (start_part x) (length_part x)
 
 -- a payload's outcome tells the answer
@@ -115,22 +124,22 @@ payload-back =
 
 -- that it has the answer's number, a bad block's place, and a payload's length and where it begins, and that the payload lies in the
 -- capture
-Told : Part → Type 0
+Told : Result Part Unsound → Type 0
 Told t =
     (number_part (part_outcome t) ≡ part_number t) × ((q : ℕ) → part_values t ≡ q ∷ [] → place_part (part_outcome t) ≡ q)
     × ((start n : ℕ) → part_values t ≡ start ∷ n ∷ [] → (start_part (part_outcome t) ≡ start) × (length_part (part_outcome t) ≡ n) × (start + n ≤ 65536))
 
-told-size : Told (Part.Refused 34)
+told-size : Told (Err Unsound.WrongSize)
 unfolding Told
 told-size = (refl, λ q e. none q e, λ start n e. let z : ◌≡◌ {A = ℕ} 0 1 = cc in absurd (omega (arith, z)))
 
-told-bad : (p : ℕ) → p ≤ 128 → Told (Part.Bad p)
+told-bad : (p : ℕ) → p ≤ 128 → Told (Err (Unsound.BadBlock p))
 unfolding Told
 told-bad p h =
     let b = bad-back p h in
     (b.0, λ q e. b.1 ∙ only p q e, λ start n e. let z : ◌≡◌ {A = ℕ} 0 1 = cc in absurd (omega (arith, z)))
 
-told-bytes : (start n : ℕ) → n ≤ 504 → start + n ≤ 65536 → Told (Part.Bytes start n)
+told-bytes : (start n : ℕ) → n ≤ 504 → start + n ≤ 65536 → Told (Ok (part_from start n))
 unfolding Told
 told-bytes start n few within =
     let b = bytes_back start n few in (

@@ -1,5 +1,6 @@
 -- The answers of a capture's calls: a place and how many blocks there are is at most 128, and a payload has at most 504 bytes and lies in
 -- the capture.
+use Rattle.std.specs.Prelude.{Result, Ok, Err}
 use Prim.Native.Nat.{ℕ, zero, suc, ◌+◌, ◌≤◌, ◌<◌}
 use mathlib.Core.Path.{◌≡◌, refl, sym, subst}
 use mathlib.Core.Bool.{Bool, true, false, cond, not, ◌&&◌, ◌||◌}
@@ -10,13 +11,13 @@ use lib.Dec.{T, eqb, leb}
 use borrow.Author.Tests.{eqb-true, leb-true}
 use Rattle.capture.specs.Blocks.{number, used, in_range, zeros_behind, check_fits, intact}
 use Rattle.capture.specs.Captures.{whole, start_of, block_at, unfinished_at, numbered, follows, bad, first_from, first_bad, first_unfinished, found}
-use Rattle.capture.specs.Calls.{held_of, is_finished, part_of}
-use Rattle.capture.specs.declared.Held.{Held}
+use Rattle.capture.specs.Calls.{held_of, is_finished, part_from, part_of}
+use Rattle.capture.specs.declared.Unsound.{Unsound}
 use Rattle.capture.specs.declared.Part.{Part}
 use Rattle.capture.proofs.JudgeLaws.{first-none, found-most}
 use Rattle.capture_append.specs.Appending.{misfit, taken_of}
-use Rattle.capture_append.specs.declared.Taken.{Taken}
-use Rattle.c_capture.specs.Outcomes.{taken_outcome, held_outcome, part_outcome}
+use Rattle.capture_append.specs.declared.AppendError.{AppendError}
+use Rattle.c_capture.specs.Outcomes.{unsound_outcome, taken_outcome, held_outcome, part_outcome}
 
 no_false : false ≡ true → ⊥
 no_false e = subst T (sym e) tt
@@ -75,12 +76,12 @@ module _ (m : List ℕ) where
 
 -- ---- what holds of every answer that a call has holds of the answer to any bytes
 -- an append
-pub of-appends : (P : Taken → Type 0) → P (Taken.Refused 34) → P (Taken.Refused 31) → P (Taken.Refused 32)
-    → ((p : ℕ) → p ≤ 128 → P (Taken.Bad p)) → ((p : ℕ) → p ≤ 128 → P (Taken.At p)) → (m x : List ℕ) → P (taken_of m x)
+pub of-appends : (P : Result ℕ AppendError → Type 0) → P (Err (AppendError.Unsound Unsound.WrongSize)) → P (Err AppendError.PayloadLength) → P (Err AppendError.Full)
+    → ((p : ℕ) → p ≤ 128 → P (Err (AppendError.Unsound (Unsound.BadBlock p)))) → ((p : ℕ) → p ≤ 128 → P (Ok p)) → (m x : List ℕ) → P (taken_of m x)
 unfolding taken_of
 of-appends P size misfits full damaged at m x = go (whole m) (misfit x) (eqb (first_bad m) 0) (eqb (first_unfinished m) 0)
   where
-    go : (s f b u : Bool) → P (cond (not s) (Taken.Refused 34) (cond f (Taken.Refused 31) (cond (not b) (Taken.Bad (first_bad m)) (cond u (Taken.Refused 32) (Taken.At (first_unfinished m))))))
+    go : (s f b u : Bool) → P (cond (not s) (Err (AppendError.Unsound Unsound.WrongSize)) (cond f (Err AppendError.PayloadLength) (cond (not b) (Err (AppendError.Unsound (Unsound.BadBlock (first_bad m)))) (cond u (Err AppendError.Full) (Ok (first_unfinished m))))))
     go false f b u = size
     go true true b u = misfits
     go true false false u = damaged (first_bad m) (bad-most m)
@@ -88,24 +89,24 @@ of-appends P size misfits full damaged at m x = go (whole m) (misfit x) (eqb (fi
     go true false true false = at (first_unfinished m) (open-most m)
 
 -- how many blocks are finished
-pub of-counts : (P : Held → Type 0) → P (Held.Refused 34) → ((p : ℕ) → p ≤ 128 → P (Held.Bad p)) → ((n : ℕ) → n ≤ 128 → P (Held.Blocks n))
+pub of-counts : (P : Result ℕ Unsound → Type 0) → P (Err Unsound.WrongSize) → ((p : ℕ) → p ≤ 128 → P (Err (Unsound.BadBlock p))) → ((n : ℕ) → n ≤ 128 → P (Ok n))
     → (m : List ℕ) → P (held_of m)
 unfolding held_of
 of-counts P size damaged blocks m = go (whole m) (eqb (first_bad m) 0) refl
   where
-    go : (s b : Bool) → eqb (first_bad m) 0 ≡ b → P (cond (not s) (Held.Refused 34) (cond (not b) (Held.Bad (first_bad m)) (Held.Blocks (length (found m)))))
+    go : (s b : Bool) → eqb (first_bad m) 0 ≡ b → P (cond (not s) (Err Unsound.WrongSize) (cond (not b) (Err (Unsound.BadBlock (first_bad m))) (Ok (length (found m)))))
     go false b e = size
     go true false e = damaged (first_bad m) (bad-most m)
     go true true e = blocks (length (found m)) (found-most m (eqb-true (first_bad m) 0 e))
 
 -- the payload at a place
-pub of-payloads : (P : Part → Type 0) → P (Part.Refused 34) → ((p : ℕ) → p ≤ 128 → P (Part.Bad p))
-    → ((start n : ℕ) → n ≤ 504 → start + n ≤ 65536 → P (Part.Bytes start n)) → (m : List ℕ) (p : ℕ) → P (part_of m p)
+pub of-payloads : (P : Result Part Unsound → Type 0) → P (Err Unsound.WrongSize) → ((p : ℕ) → p ≤ 128 → P (Err (Unsound.BadBlock p)))
+    → ((start n : ℕ) → n ≤ 504 → start + n ≤ 65536 → P (Ok (part_from start n))) → (m : List ℕ) (p : ℕ) → P (part_of m p)
 unfolding part_of
 of-payloads P size damaged bytes m p = go (whole m) (eqb (first_bad m) 0) (is_finished m p) refl refl
   where
     go : (s b f : Bool) → eqb (first_bad m) 0 ≡ b → is_finished m p ≡ f
-        → P (cond (not s) (Part.Refused 34) (cond (not b) (Part.Bad (first_bad m)) (cond f (Part.Bytes (start_of p + 6) (used (block_at m p))) (Part.Bytes 0 0))))
+        → P (cond (not s) (Err Unsound.WrongSize) (cond (not b) (Err (Unsound.BadBlock (first_bad m))) (Ok (cond f (part_from (start_of p + 6) (used (block_at m p))) (part_from 0 0)))))
     go false b f e is = size
     go true false f e is = damaged (first_bad m) (bad-most m)
     go true true true e is = let few = part_small m (eqb-true (first_bad m) 0 e) p is in bytes (start_of p + 6) (used (block_at m p)) few.0 few.1
@@ -120,3 +121,11 @@ finished-fits = of-counts (λ h. held_outcome h ≤ 32801) (omega arith) (λ p h
 
 pub payload-fits : (m : List ℕ) (p : ℕ) → part_outcome (part_of m p) ≤ 281475009740800
 payload-fits = of-payloads (λ t. part_outcome t ≤ 281475009740800) (omega arith) (λ p h. omega (arith, h)) (λ start n few within. omega (arith, few, within))
+
+-- where reading a place is refused, the outcome is one of a refusal
+abbrev pub refusal : Result Part Unsound → ℕ
+refusal (Ok part) = 0
+refusal (Err e) = unsound_outcome e
+
+pub refusal-fits : (m : List ℕ) (p : ℕ) → refusal (part_of m p) ≤ 32801
+refusal-fits = of-payloads (λ t. refusal t ≤ 32801) (omega arith) (λ p h. omega (arith, h)) (λ start n few within. omega arith)

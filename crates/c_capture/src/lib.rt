@@ -5,21 +5,42 @@ ghost use Rattle.std.specs.Prelude.{◌≡◌, ◌≤◌};
 ghost use Rattle.capture.specs.Calls.{cleared_of, cleared_bytes, held_of, part_of};
 ghost use Rattle.capture_append.specs.Stores.{stores};
 ghost use Rattle.capture_append.specs.Appending.{taken_of, taken_bytes};
-ghost use Rattle.c_capture.specs.Outcomes.{cleared_outcome, taken_outcome, held_outcome, part_outcome};
+ghost use Rattle.c_capture.specs.Outcomes.{cleared_outcome, unsound_outcome, append_outcome, taken_outcome, held_outcome, part_outcome};
 
 use capture::reading::{clear, finished, payload_at};
-use capture::{Cleared, Held, Part};
-use capture_append::{Taken, append, append_cut};
+use capture::{Part, Unsound};
+use capture_append::{AppendError, append, append_cut};
 
-// Of an append: above the answer stands the place of the block, or beside 33 that of the bad one. There are 128 places.
-fn taken_outcome(taken: Taken) -> u64
+// Of a refusal to read: beside 33 stands the place of the bad block above it. There are 128 places.
+fn unsound_outcome(e: Unsound) -> u64
+    requires { unsound_outcome e ≤ 32801 }
+    ensures { result ≡ unsound_outcome e }
+{
+    match e {
+        Unsound::WrongSize => u64::from(e.number()),
+        Unsound::BadBlock(place) => 33 + 256 * (place as u64),
+    }
+}
+
+// Of a refusal to append.
+fn append_outcome(e: AppendError) -> u64
+    requires { append_outcome e ≤ 32801 }
+    ensures { result ≡ append_outcome e }
+{
+    match e {
+        AppendError::Unsound(e) => unsound_outcome(e),
+        _ => u64::from(e.number()),
+    }
+}
+
+// Of an append: above the answer stands the place of the block.
+fn taken_outcome(taken: Result<usize, AppendError>) -> u64
     requires { taken_outcome taken ≤ 32801 }
     ensures { result ≡ taken_outcome taken }
 {
     match taken {
-        Taken::At(place) => 256 * (place as u64),
-        Taken::Refused(n) => n as u64,
-        Taken::Bad(place) => 33 + 256 * (place as u64),
+        Ok(place) => 256 * (place as u64),
+        Err(e) => append_outcome(e),
     }
 }
 
@@ -28,10 +49,9 @@ pub fn trivsome_capture_clear(capture: &mut [u8]) -> u64
     ensures value { result ≡ cleared_outcome (cleared_of capture.old) }
     ensures capture_after { capture.new ≡ cleared_bytes capture.old }
 {
-    let cleared = clear(capture);
-    match cleared {
-        Cleared::Done => 0,
-        Cleared::Refused(n) => n as u64,
+    match clear(capture) {
+        Ok(()) => 0,
+        Err(e) => u64::from(e.number()),
     }
 }
 
@@ -55,11 +75,9 @@ pub fn trivsome_capture_append_cut(capture: &mut [u8], payload: &[u8], stores: u
 pub fn trivsome_capture_finished(capture: &[u8]) -> u64
     ensures { result ≡ held_outcome (held_of capture.now) }
 {
-    let held = finished(capture);
-    match held {
-        Held::Blocks(n) => 256 * (n as u64),
-        Held::Refused(n) => n as u64,
-        Held::Bad(place) => 33 + 256 * (place as u64),
+    match finished(capture) {
+        Ok(n) => 256 * (n as u64),
+        Err(e) => unsound_outcome(e),
     }
 }
 
@@ -68,10 +86,8 @@ pub fn trivsome_capture_finished(capture: &[u8]) -> u64
 pub fn trivsome_capture_payload(capture: &[u8], place: usize) -> u64
     ensures { result ≡ part_outcome (part_of capture.now place) }
 {
-    let part = payload_at(capture, place);
-    match part {
-        Part::Bytes(start, length) => 65536 * (length as u64) + 4294967296 * (start as u64),
-        Part::Refused(n) => n as u64,
-        Part::Bad(at) => 33 + 256 * (at as u64),
+    match payload_at(capture, place) {
+        Ok(Part { start, length }) => 65536 * (length as u64) + 4294967296 * (start as u64),
+        Err(e) => unsound_outcome(e),
     }
 }

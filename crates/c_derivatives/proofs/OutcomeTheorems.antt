@@ -1,4 +1,5 @@
 -- An outcome tells what it was made from: nothing of the answer of a reading of the derivatives exchange is lost in its one number.
+use Rattle.std.specs.Prelude.{Some}
 use Prim.Native.Nat.{ℕ, ◌≤◌, ◌<◌}
 use mathlib.Core.Path.{◌≡◌, refl, sym, ap, ◌∙◌}
 use mathlib.Core.Bool.{Bool, true, false, cond}
@@ -6,7 +7,6 @@ use mathlib.Core.List.{List}
 use native.Mathlib.Omega.{arith}
 use lib.ListN.{length, get_or, drop}
 use lib.Dec.{eqb, leb}
-use Rattle.digits.specs.declared.halves.Place.TheVariants.{Half}
 use Rattle.layout.specs.Checks.{first_fail}
 use Rattle.answers.specs.Answers.{named, answer_number, answer_length, answer_place}
 use Rattle.answers.specs.declared.Frame.{Frame}
@@ -60,7 +60,7 @@ module _ (t : List ℕ) where
       (right-length header law t right).1
 
   -- and so a place is near the frame's first byte
-  place-near : (q : ℕ) → place_of derivatives n t ≡ Half q → q < 4294967295
+  place-near : (q : ℕ) → place_of derivatives n t ≡ Some q → q < 4294967295
   place-near q e = omega (arith, ((index-places t).within q (place_at derivatives law behind t n (answer-number derivatives t) ∙ e)).1)
 
   -- the answer to any bytes has room in an outcome

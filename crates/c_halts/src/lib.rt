@@ -10,7 +10,7 @@ ghost use Rattle.c_halts.specs.Halts.{halt_numbers, halt_from, halt_outcome, hal
 mod numbers;
 
 use crate::numbers::{halt_numbers, halt_of, tells_halt};
-use answers::Written;
+use answers::WriteError;
 use c_outcomes::{is_of, of_answer, of_written};
 use stock_reading::reading::read_halt;
 
@@ -48,7 +48,7 @@ pub fn trivsome_write_halt_numbers(
     ensures buf_after { buf.new ≡ halt_bytes event.now (halt_from seq code.now event.now) buf.old }
 {
     if !tells_halt(event) {
-        return of_written(Written::Illegal);
+        return of_written(Err(WriteError::Illegal));
     }
     let halt = halt_of(seq, code, event);
     of_written(stock_halts_write::write(halt, buf))

@@ -3,19 +3,16 @@ ghost use Rattle.std.specs.Prelude.{◌≡◌};
 ghost use Rattle.stock_halts.specs.Halts.{resume_number, resume_of, sending_byte, sending_of, state_right};
 ghost use Rattle.c_halts.specs.Halts.{halt_numbers, tells_halt, event_from, halt_from};
 
-use stock_halts::{Event, Halt, Resume, Sending};
+use stock_halts::{Event, Halt, Sending};
 
 // All nines in a time's place.
 const NINES: u32 = 999999;
 
 // A resume's number, and a state's.
-fn resume_number(r: Resume) -> u32
+fn resume_number(r: Option<u32>) -> u32
     ensures { result ≡ resume_number r }
 {
-    match r {
-        Resume::Open => NINES,
-        Resume::At(t) => t,
-    }
+    r.unwrap_or(NINES)
 }
 
 fn state_byte(s: Sending) -> u32
@@ -44,10 +41,7 @@ pub(crate) fn halt_numbers(h: Halt) -> [u32; 4]
 fn known_state(b: u32) -> bool
     ensures { result ≡ state_right b }
 {
-    if b == 67 {
-        return true;
-    }
-    b == 73
+    b == 67 || b == 73
 }
 
 // Whether four numbers tell a halt.
@@ -64,13 +58,10 @@ pub(crate) fn tells_halt(event: &[u32; 4]) -> bool
 }
 
 // A resume of its number.
-fn resume_of(t: u32) -> Resume
+fn resume_of(t: u32) -> Option<u32>
     ensures { result ≡ resume_of t }
 {
-    if t == NINES {
-        return Resume::Open;
-    }
-    Resume::At(t)
+    if t == NINES { None } else { Some(t) }
 }
 
 // A state of its byte.
@@ -78,9 +69,10 @@ fn sending_of(b: u32) -> Sending
     ensures { result ≡ sending_of b }
 {
     if b == 67 {
-        return Sending::Cycle;
+        Sending::Cycle
+    } else {
+        Sending::Instant
     }
-    Sending::Instant
 }
 
 // The event of its numbers.

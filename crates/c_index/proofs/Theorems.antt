@@ -1,4 +1,5 @@
 -- The numbers and bytes of an index value tell it, and the outcome of writing one tells the answer.
+use Rattle.std.specs.Prelude.{Ok}
 use Prim.Native.Nat.{ℕ, ◌≤◌, ◌<◌}
 use mathlib.Core.Path.{◌≡◌, sym, ap, ◌∙◌}
 use mathlib.Core.Bool.{true}
@@ -11,7 +12,6 @@ use Rattle.digits.proofs.Bools.{and_left, and_right}
 use Rattle.answers.specs.Answers.{written_number}
 use Rattle.answers.specs.declared.Frame.{Frame}
 use Rattle.answers.specs.declared.Answer.TheVariants.{Accepted}
-use Rattle.answers.specs.declared.Written.TheVariants.{Done}
 use Rattle.frame.specs.Header.{own, body, front}
 use Rattle.frame.specs.Codec.{Reads, legal, frame_of}
 use Rattle.frame.specs.Writing.{write_answer}
@@ -76,7 +76,7 @@ module _ (t : List ℕ) (f : Frame) (e : answer_of t ≡ Accepted f) where
 
 -- the outcome of writing any index value whose contract has its room has the answer's number, and where it is done the length
 pub index-written : (m : Index) → ShapedIndex m → (buf : List ℕ) → let w = write_answer (legal index_codec m) (frame_of index_codec m) buf in
-    (answer_part (index_outcome m buf) ≡ written_number w) × ((n : ℕ) → w ≡ Done n → (n ≤ 1024) × (length_part (index_outcome m buf) ≡ n))
+    (answer_part (index_outcome m buf) ≡ written_number w) × ((n : ℕ) → w ≡ Ok n → (n ≤ 1024) × (length_part (index_outcome m buf) ≡ n))
 index-written m s buf =
     writing-told (legal index_codec m) (frame_of index_codec m) buf
     (λ l. omega (arith, legal-most index_codec m l, length-frame_of index_codec ShapedIndex index-lawful m s l))

@@ -1,20 +1,21 @@
 -- The outcome of a call on a ledger tells the answer: an arrival's, a figure's and a run's.
 use Prim.Native.Nat.{ℕ, zero, suc, ◌+◌, ◌-◌, ◌*◌, ◌/◌, ◌%◌, ◌≤◌}
 use mathlib.Core.Path.{◌≡◌, refl, sym, ap, subst, ◌∙◌}
+use mathlib.Core.List.{[], ◌∷◌}
 use mathlib.Core.Bool.{Bool, true, false, cond, not, ◌||◌}
 use native.Mathlib.Omega.{arith}
 use lib.Dec.{leb, eqb, ltb}
 use borrow.Author.Tests.{leb-true, leb-false, eqb-true, eqb-false, ne_eqb, ltb-false}
 use Rattle.digits.proofs.Bools.{no_false}
+use Rattle.std.specs.Prelude.{Result, Ok, Err}
 use Rattle.ledger.specs.Sets.{with, count_to}
 use Rattle.ledger.specs.Ends.{falling, settled_at, highest_in, settled_in, first_of, last_of, runs_in, turned, with_number, floor_fits, fitted}
-use Rattle.ledger.specs.Calls.{most_number, most_runs, arrival_number, figure_number, run_number, valid, arrived_of, gave_up_of, figure_by, figure_of, run_of}
+use Rattle.ledger.specs.Calls.{most_number, most_runs, answer_number, run_values, run_from, error_number, valid, arrived_of, gave_up_of, figure_by, figure_of, run_of}
 use Rattle.ledger.specs.declared.Ledger.{Ledger}
 use Rattle.ledger.specs.declared.Arrival.{Arrival}
-use Rattle.ledger.specs.declared.Arrived.{Arrived}
-use Rattle.ledger.specs.declared.Figure.{Figure}
-use Rattle.ledger.specs.declared.RunAt.{RunAt}
-use Rattle.ledger.specs.declared.GaveUp.{GaveUp}
+use Rattle.ledger.specs.declared.Run.{Run}
+use Rattle.ledger.specs.declared.Answered.{Answered}
+use Rattle.ledger.specs.declared.LedgerError.{LedgerError}
 use Rattle.ledger.proofs.EndLaws.{both_left, both_right, falls-bound, odd-settled}
 use Rattle.ledger.proofs.SetLaws.{count_same}
 use Rattle.ledger.proofs.TrueLaws.{ends-settled}
@@ -34,23 +35,32 @@ above_part x = x / 256
 valid-falls : (l : Ledger) → valid l ≡ true → falling (most_number + 1) l.ends ≡ true
 valid-falls l v = both_left (falling (most_number + 1) l.ends) (floor_fits l.floor l.given l.ends) (valid-is l ∙ v)
 
+-- the refusal of a number
+abbrev pub error_in : ℕ → LedgerError
+error_in x =
+    cond (eqb x 20) LedgerError.Damaged
+    (cond (eqb x 21) LedgerError.OutOfRange
+    (cond (eqb x 22) LedgerError.TooManyRuns
+    (cond (eqb x 23) LedgerError.NoSuchRun
+    (cond (eqb x 24) LedgerError.NothingMissing LedgerError.NotAboveFloor))))
+
 -- ---- arrivals
 -- how many numbers more are heard
-abbrev pub heard_more : Arrival → ℕ
-heard_more Arrival.New = 1
-heard_more Arrival.Repeat = 0
-heard_more (Arrival.Refused n) = 0
+abbrev pub heard_more : Result Arrival LedgerError → ℕ
+heard_more (Ok Arrival.New) = 1
+heard_more (Ok Arrival.Repeat) = 0
+heard_more (Err e) = 0
 
 -- the answer that an arrival's outcome tells
-abbrev pub arrival_in : ℕ → Arrival
-arrival_in x = cond (eqb (answer_part x) 0) (cond (eqb (above_part x) 0) Arrival.Repeat Arrival.New) (Arrival.Refused (answer_part x))
+abbrev pub arrival_in : ℕ → Result Arrival LedgerError
+arrival_in x = cond (eqb (answer_part x) 0) (Ok (cond (eqb (above_part x) 0) Arrival.Repeat Arrival.New)) (Err (error_in (answer_part x)))
 
 -- what holds of the six answers holds of the answer to any arrival
-of-arrivals : (P : Arrival → Type 0) → P Arrival.New → P Arrival.Repeat → P (Arrival.Refused 20) → P (Arrival.Refused 21) → P (Arrival.Refused 22) → P (Arrival.Refused 25)
+of-arrivals : (P : Result Arrival LedgerError → Type 0) → P (Ok Arrival.New) → P (Ok Arrival.Repeat) → P (Err LedgerError.Damaged) → P (Err LedgerError.OutOfRange) → P (Err LedgerError.TooManyRuns) → P (Err LedgerError.NotAboveFloor)
     → (l : Ledger) (n : ℕ) → P (arrived_of l n).answer
 of-arrivals P p q r s t u l n = go (valid l) refl
   where
-    by-case : (x : Arrived) → Arrives l n x → P x.answer
+    by-case : (x : Answered Arrival) → Arrives l n x → P x.answer
     by-case x (outside e) = s
     by-case x (under lo hi low) = u
     by-case x (repeats lo hi above e) = q
@@ -59,7 +69,7 @@ of-arrivals P p q r s t u l n = go (valid l) refl
 
     go : (v : Bool) → valid l ≡ v → P (arrived_of l n).answer
     go true v = by-case (arrived_of l n) (arrives l n v)
-    go false v = subst (λ (x : Arrived). P x.answer) (arrive-damaged l n v) r
+    go false v = subst (λ (x : Answered Arrival). P x.answer) (arrive-damaged l n v) r
 
 -- an arrival's outcome tells the answer
 pub arrival-back : (l : Ledger) (n : ℕ) → arrival_in (arrival_outcome (arrived_of l n).answer) ≡ (arrived_of l n).answer
@@ -67,9 +77,9 @@ arrival-back = of-arrivals (λ a. arrival_in (arrival_outcome a) ≡ a) refl ref
 
 -- it has the answer's number, and how many numbers more are heard
 pub arrival-told : (l : Ledger) (n : ℕ) → let a = (arrived_of l n).answer in
-    (answer_part (arrival_outcome a) ≡ arrival_number a) × (above_part (arrival_outcome a) ≡ heard_more a)
+    (answer_part (arrival_outcome a) ≡ answer_number a) × (above_part (arrival_outcome a) ≡ heard_more a)
 arrival-told =
-    of-arrivals (λ a. (answer_part (arrival_outcome a) ≡ arrival_number a) × (above_part (arrival_outcome a) ≡ heard_more a))
+    of-arrivals (λ a. (answer_part (arrival_outcome a) ≡ answer_number a) × (above_part (arrival_outcome a) ≡ heard_more a))
     (refl, refl) (refl, refl) (refl, refl) (refl, refl) (refl, refl) (refl, refl)
 
 -- a number put into a set that it is not in makes one more
@@ -131,7 +141,7 @@ arrival-grows l n = go (valid l) refl
         ∙ same ∙ count-with (settled_at es) n k lo (omega arith) miss
         ∙ ap (λ (c : ℕ). c + 1) (ends-settled (most_number + 1) es k falls (omega arith))
 
-    by-case : valid l ≡ true → (x : Arrived) → Arrives l n x → heard_by x.ledger ≡ heard_by l + heard_more x.answer
+    by-case : valid l ≡ true → (x : Answered Arrival) → Arrives l n x → heard_by x.ledger ≡ heard_by l + heard_more x.answer
     by-case v x (outside e) = omega arith
     by-case v x (under lo hi low) = omega arith
     by-case v x (repeats lo hi above e) = omega arith
@@ -140,12 +150,12 @@ arrival-grows l n = go (valid l) refl
 
     go : (v : Bool) → valid l ≡ v → heard_by (arrived_of l n).ledger ≡ heard_by l + heard_more (arrived_of l n).answer
     go true v = by-case v (arrived_of l n) (arrives l n v)
-    go false v = subst (λ (x : Arrived). heard_by x.ledger ≡ heard_by l + heard_more x.answer) (arrive-damaged l n v) (omega arith)
+    go false v = subst (λ (x : Answered Arrival). heard_by x.ledger ≡ heard_by l + heard_more x.answer) (arrive-damaged l n v) (omega arith)
 
 -- ---- figures
 -- the answer that a figure's outcome tells
-abbrev pub figure_in : ℕ → Figure
-figure_in x = cond (eqb (answer_part x) 0) (Figure.Is (above_part x)) (Figure.Refused (answer_part x))
+abbrev pub figure_in : ℕ → Result ℕ LedgerError
+figure_in x = cond (eqb (answer_part x) 0) (Ok (above_part x)) (Err (error_in (answer_part x)))
 
 -- the outcome of a question for any figure of a ledger, as the highest, heard, missing, runs, floor or given up, tells the answer
 pub figure-back : (l : Ledger) (n : ℕ) → figure_in (figure_outcome (figure_of l n)) ≡ figure_of l n
@@ -153,31 +163,31 @@ figure-back l n = go (valid l)
   where
     go : (v : Bool) → figure_in (figure_outcome (figure_by v n)) ≡ figure_by v n
     go true =
-        let a : answer_part (figure_outcome (Figure.Is n)) ≡ 0 = omega arith in
-        let f : above_part (figure_outcome (Figure.Is n)) ≡ n = omega arith in
-        λ i. cond (eqb (a i) 0) (Figure.Is (f i)) (Figure.Refused (a i))
+        let a : answer_part (figure_outcome (Ok n)) ≡ 0 = omega arith in
+        let f : above_part (figure_outcome (Ok n)) ≡ n = omega arith in
+        λ i. cond (eqb (a i) 0) (Ok (f i)) (Err (error_in (a i)))
     go false = refl
 
 -- it has the answer's number, and where there is a figure the figure
 pub figure-told : (l : Ledger) (n : ℕ) → let x = figure_outcome (figure_of l n) in
-    (answer_part x ≡ figure_number (figure_of l n)) × ((k : ℕ) → figure_of l n ≡ Figure.Is k → above_part x ≡ k)
+    (answer_part x ≡ answer_number (figure_of l n)) × ((k : ℕ) → figure_of l n ≡ Ok k → above_part x ≡ k)
 figure-told l n = go (valid l)
   where
-    go : (v : Bool) → let x = figure_outcome (figure_by v n) in (answer_part x ≡ figure_number (figure_by v n)) × ((k : ℕ) → figure_by v n ≡ Figure.Is k → above_part x ≡ k)
+    go : (v : Bool) → let x = figure_outcome (figure_by v n) in (answer_part x ≡ answer_number (figure_by v n)) × ((k : ℕ) → figure_by v n ≡ Ok k → above_part x ≡ k)
     go true = (omega arith, λ k e. let same : n ≡ k = cc in omega arith)
     go false = (refl, λ k e. let z : ◌≡◌ {A = ℕ} 0 1 = cc in absurd (omega arith))
 
 -- ---- runs
 -- the answer that a run's outcome tells
-abbrev pub run_in : ℕ → RunAt
-run_in x = cond (eqb (answer_part x) 0) (RunAt.Run (first_part x) (last_part x)) (RunAt.Refused (answer_part x))
+abbrev pub run_in : ℕ → Result Run LedgerError
+run_in x = cond (eqb (answer_part x) 0) (Ok (run_from (first_part x) (last_part x))) (Err (error_in (answer_part x)))
 
 -- what holds of 20, of 23 and of every run whose numbers are small holds of the answer to any question for a run
-of-runs : (P : RunAt → Type 0) → P (RunAt.Refused 20) → P (RunAt.Refused 23) → ((first last : ℕ) → first ≤ 100000000 → last ≤ 99999999 → P (RunAt.Run first last))
+of-runs : (P : Result Run LedgerError → Type 0) → P (Err LedgerError.Damaged) → P (Err LedgerError.NoSuchRun) → ((first last : ℕ) → first ≤ 100000000 → last ≤ 99999999 → P (Ok (run_from first last)))
     → (l : Ledger) (k : ℕ) → P (run_of l k)
 of-runs P damaged none run l k = go (valid l) (ltb k (runs_in l.ends)) refl
   where
-    go : (v u : Bool) → valid l ≡ v → P (cond (not v) (RunAt.Refused 20) (cond u (RunAt.Run (first_of l.ends k) (last_of l.ends k)) (RunAt.Refused 23)))
+    go : (v u : Bool) → valid l ≡ v → P (cond (not v) (Err LedgerError.Damaged) (cond u (Ok (run_from (first_of l.ends k) (last_of l.ends k))) (Err LedgerError.NoSuchRun)))
     go true true v =
         run (first_of l.ends k) (last_of l.ends k)
         (omega (arith, falls-bound (most_number + 1) l.ends (2 * (runs_in l.ends - k)) (valid-falls l v)))
@@ -186,11 +196,11 @@ of-runs P damaged none run l k = go (valid l) (ltb k (runs_in l.ends)) refl
     go false u v = damaged
 
 -- and so of 24 in place of 23 of the answer to giving up
-of-givings : (P : RunAt → Type 0) → P (RunAt.Refused 20) → P (RunAt.Refused 24) → ((first last : ℕ) → first ≤ 100000000 → last ≤ 99999999 → P (RunAt.Run first last))
+of-givings : (P : Result Run LedgerError → Type 0) → P (Err LedgerError.Damaged) → P (Err LedgerError.NothingMissing) → ((first last : ℕ) → first ≤ 100000000 → last ≤ 99999999 → P (Ok (run_from first last)))
     → (l : Ledger) → P (gave_up_of l).answer
 of-givings P damaged none run l = go (valid l) refl
   where
-    by-case : valid l ≡ true → (x : GaveUp) → Gives l x → P x.answer
+    by-case : valid l ≡ true → (x : Answered Run) → Gives l x → P x.answer
     by-case v x (no_run e) = none
     by-case v x (a-run e) =
         run (first_of l.ends 0) (last_of l.ends 0)
@@ -199,32 +209,38 @@ of-givings P damaged none run l = go (valid l) refl
 
     go : (v : Bool) → valid l ≡ v → P (gave_up_of l).answer
     go true v = by-case v (gave_up_of l) (gives l v)
-    go false v = subst (λ (x : GaveUp). P x.answer) (give-up-damaged l v) damaged
+    go false v = subst (λ (x : Answered Run). P x.answer) (give-up-damaged l v) damaged
 
 -- the outcome of a question for a run has its first and its last number, and answer 0
-run-parts : (first last : ℕ) → first ≤ 100000000 → last ≤ 99999999 → let x = run_outcome (RunAt.Run first last) in
+run-parts : (first last : ℕ) → first ≤ 100000000 → last ≤ 99999999 → let x = run_outcome (Ok (run_from first last)) in
     (answer_part x ≡ 0) × (first_part x ≡ first) × (last_part x ≡ last)
 run-parts first last low high = (omega arith, omega arith, omega arith)
 
 -- that an outcome tells the answer
-Back : RunAt → Type 0
+Back : Result Run LedgerError → Type 0
 Back r = run_in (run_outcome r) ≡ r
 
-back-run : (first last : ℕ) → first ≤ 100000000 → last ≤ 99999999 → Back (RunAt.Run first last)
+back-run : (first last : ℕ) → first ≤ 100000000 → last ≤ 99999999 → Back (Ok (run_from first last))
 unfolding Back
-back-run first last low high = let p = run-parts first last low high in λ i. cond (eqb (p.0 i) 0) (RunAt.Run (p.1 i) (p.2 i)) (RunAt.Refused (p.0 i))
+back-run first last low high = let p = run-parts first last low high in λ i. cond (eqb (p.0 i) 0) (Ok (run_from (p.1 i) (p.2 i))) (Err (error_in (p.0 i)))
 
 -- that it has the answer's number, and where there is a run its first and its last number
-Told : RunAt → Type 0
-Told r = (answer_part (run_outcome r) ≡ run_number r) × ((first last : ℕ) → r ≡ RunAt.Run first last → (first_part (run_outcome r) ≡ first) × (last_part (run_outcome r) ≡ last))
+Told : Result Run LedgerError → Type 0
+Told r = (answer_part (run_outcome r) ≡ answer_number r) × ((first last : ℕ) → r ≡ Ok (run_from first last) → (first_part (run_outcome r) ≡ first) × (last_part (run_outcome r) ≡ last))
 
-told-run : (first last : ℕ) → first ≤ 100000000 → last ≤ 99999999 → Told (RunAt.Run first last)
+told-run : (first last : ℕ) → first ≤ 100000000 → last ≤ 99999999 → Told (Ok (run_from first last))
 unfolding Told
-told-run a z low high = let p = run-parts a z low high in (p.0, λ first last e. let f : a ≡ first = cc in let g : z ≡ last = cc in (p.1 ∙ f, p.2 ∙ g))
+told-run a z low high = let p = run-parts a z low high in (
+  p.0,
+  λ first last e.
+      (let v : a ∷ z ∷ [] ≡ first ∷ last ∷ [] = ap run_values e in
+      let f : a ≡ first = cc in
+      let g : z ≡ last = cc in (p.1 ∙ f, p.2 ∙ g)),
+)
 
-told-refused : (n : ℕ) → answer_part n ≡ n → Told (RunAt.Refused n)
+told-refused : (e : LedgerError) → answer_part (error_number e) ≡ error_number e → Told (Err e)
 unfolding Told
-told-refused n small = (small, λ first last e. let z : ◌≡◌ {A = ℕ} 0 1 = cc in absurd (omega arith))
+told-refused e small = (small, λ first last is. let z : ◌≡◌ {A = ℕ} 0 1 = cc in absurd (omega arith))
 
 -- the outcome of a question for a run tells the answer
 pub run-back : (l : Ledger) (k : ℕ) → run_in (run_outcome (run_of l k)) ≡ run_of l k
@@ -233,9 +249,9 @@ run-back = of-runs Back refl refl back-run
 
 -- it has the answer's number, and where there is a run its first and its last number
 pub run-told : (l : Ledger) (k : ℕ) → let x = run_outcome (run_of l k) in
-    (answer_part x ≡ run_number (run_of l k)) × ((first last : ℕ) → run_of l k ≡ RunAt.Run first last → (first_part x ≡ first) × (last_part x ≡ last))
+    (answer_part x ≡ answer_number (run_of l k)) × ((first last : ℕ) → run_of l k ≡ Ok (run_from first last) → (first_part x ≡ first) × (last_part x ≡ last))
 unfolding Told
-run-told = of-runs Told (told-refused 20 refl) (told-refused 23 refl) told-run
+run-told = of-runs Told (told-refused LedgerError.Damaged refl) (told-refused LedgerError.NoSuchRun refl) told-run
 
 -- and so with the outcome of giving up
 pub give-up-back : (l : Ledger) → run_in (run_outcome (gave_up_of l).answer) ≡ (gave_up_of l).answer
@@ -243,6 +259,6 @@ unfolding Back
 give-up-back = of-givings Back refl refl back-run
 
 pub give-up-told : (l : Ledger) → let r = (gave_up_of l).answer in
-    (answer_part (run_outcome r) ≡ run_number r) × ((first last : ℕ) → r ≡ RunAt.Run first last → (first_part (run_outcome r) ≡ first) × (last_part (run_outcome r) ≡ last))
+    (answer_part (run_outcome r) ≡ answer_number r) × ((first last : ℕ) → r ≡ Ok (run_from first last) → (first_part (run_outcome r) ≡ first) × (last_part (run_outcome r) ≡ last))
 unfolding Told
-give-up-told = of-givings Told (told-refused 20 refl) (told-refused 24 refl) told-run
+give-up-told = of-givings Told (told-refused LedgerError.Damaged refl) (told-refused LedgerError.NothingMissing refl) told-run

@@ -1,4 +1,5 @@
 -- An outcome tells what it was made from: nothing of a reading's answer is lost in its one number.
+use Rattle.std.specs.Prelude.{Option}
 use Prim.Native.Nat.{ℕ, ◌≤◌, ◌<◌}
 use mathlib.Core.Path.{◌≡◌, refl, sym, ap, ◌∙◌}
 use mathlib.Core.List.{List}
@@ -9,7 +10,6 @@ use borrow.Author.Tests.{leb-true}
 use Rattle.digits.specs.Packed.{good_field}
 use Rattle.digits.proofs.Bools.{and_right}
 use Rattle.layout.specs.Checks.{first_fail}
-use Rattle.digits.specs.declared.halves.Place.{Place}
 use Rattle.answers.specs.Answers.{named, answer_number, answer_length, answer_place}
 use Rattle.stock_frame.specs.Outline.{length_bytes, length_of, own, format, sequence, length_right}
 use Rattle.answers.specs.declared.Frame.{Frame}
@@ -45,7 +45,7 @@ module _ (t : List ℕ) where
   abbrev frame : Frame
   frame = record { format = format (own t); seq = sequence (own t); length = length_of t }
 
-  abbrev place : Place
+  abbrev place : Option ℕ
   place = place_of (first_fail (checks t)) t
 
   named-is : answer_of t ≡ named (first_fail (checks t)) frame place

@@ -1,4 +1,5 @@
 -- The numbers and bytes of a message tell it: nothing is lost on the way to a program in C or Rust and back.
+use Rattle.std.specs.Prelude.{None, Option, Some}
 use Prim.Native.Nat.{ℕ, zero, suc, ◌+◌, ◌-◌, ◌*◌, ◌≤◌}
 use mathlib.Core.Path.{◌≡◌, refl, sym, ap, ap₂, ◌∙◌}
 use mathlib.Core.Bool.{Bool, true, false, cond}
@@ -15,8 +16,6 @@ use Rattle.stock_notices.specs.Notices.{room, tidy_notice, ShapedNotice}
 use Rattle.stock_notices.specs.declared.Notice.{Notice}
 use Rattle.stock_notices.proofs.NoticeLaws.{from_parts}
 use Rattle.stock_halts.specs.Halts.{resume_of, resume_number, sending_of, sending_byte, same_resume, tidy_event}
-use Rattle.stock_halts.specs.declared.Resume.{Resume}
-use Rattle.stock_halts.specs.declared.Resume.TheVariants.{Open, At}
 use Rattle.stock_halts.specs.declared.Event.{Event}
 use Rattle.stock_halts.specs.declared.Event.TheVariants.{RoundEnd, Halted}
 use Rattle.stock_halts.specs.declared.Sending.{Sending}
@@ -35,11 +34,11 @@ use Rattle.c_halts.specs.Halts.{event_numbers, halt_numbers, tells_halt, event_f
 
 -- ---- halts
 -- each part of a halt by its numbers
-resume-back : (r : Resume) → same_resume r ≡ true → resume_of (resume_number r) ≡ r
-resume-back Open h = refl
-resume-back (At t) h = go (eqb t (nines 0)) h
+resume-back : (r : Option ℕ) → same_resume r ≡ true → resume_of (resume_number r) ≡ r
+resume-back None h = refl
+resume-back (Some t) h = go (eqb t (nines 0)) h
   where
-    go : (x : Bool) → cond x false true ≡ true → cond x Open (At t) ≡ At t
+    go : (x : Bool) → cond x false true ≡ true → cond x None (Some t) ≡ Some t
     go true h = absurd (no_false h)
     go false h = refl
 

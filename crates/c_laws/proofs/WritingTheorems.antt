@@ -1,4 +1,5 @@
 -- The outcome of a writing tells the answer, for each of the four formats.
+use Rattle.std.specs.Prelude.{Ok}
 use Prim.Native.Nat.{ℕ, ◌+◌, ◌≤◌}
 use mathlib.Core.Path.{◌≡◌, refl}
 use mathlib.Core.Bool.{Bool, true, false, ◌&&◌}
@@ -13,7 +14,6 @@ use Rattle.answers.specs.Answers.{written_number}
 use Rattle.stock_frame.specs.Format.{around}
 use Rattle.stock_frame.specs.Codec.{Codec, legal, frame_of}
 use Rattle.stock_frame.specs.Writing.{write_answer}
-use Rattle.answers.specs.declared.Written.TheVariants.{Done}
 use Rattle.stock_frame.proofs.CodecLaws.{Lawful, legal-range, length-frame_of}
 use Rattle.stock_notices.specs.Notices.{five_codec, ShapedNotice}
 use Rattle.stock_notices.proofs.NoticeLaws.{notices-lawful}
@@ -32,7 +32,7 @@ use Rattle.c_outcomes.proofs.OutcomeLaws.{writing-told}
 abbrev pub WritingTold : {M : Type 0} → Codec M → (M → Type 0) → Type 0
 WritingTold {M} C Shaped =
     (m : M) → Shaped m → (buf : List ℕ) → let w = write_answer (legal C m) (frame_of C m) buf in
-    (answer_part (write_outcome w) ≡ written_number w) × ((n : ℕ) → w ≡ Done n → (n ≤ 1024) × (length_part (write_outcome w) ≡ n))
+    (answer_part (write_outcome w) ≡ written_number w) × ((n : ℕ) → w ≡ Ok n → (n ≤ 1024) × (length_part (write_outcome w) ≡ n))
 
 message-told : {M : Type 0} (C : Codec M) (Shaped : M → Type 0) → Lawful C Shaped → WritingTold C Shaped
 message-told C Shaped law m s buf = writing-told (legal C m) (frame_of C m) buf short
@@ -58,10 +58,10 @@ halt-written = message-told nineteen_codec ShapedHalt halts-lawful
 -- and of a halt that four numbers tell, or do not
 pub halt-numbers-written : (ns : List ℕ) (h : Halt) → ShapedHalt h → (buf : List ℕ)
     → let w = write_answer (tells_halt ns && legal nineteen_codec h) (frame_of nineteen_codec h) buf in
-    (answer_part (halt_outcome ns h buf) ≡ written_number w) × ((n : ℕ) → w ≡ Done n → (n ≤ 1024) × (length_part (halt_outcome ns h buf) ≡ n))
+    (answer_part (halt_outcome ns h buf) ≡ written_number w) × ((n : ℕ) → w ≡ Ok n → (n ≤ 1024) × (length_part (halt_outcome ns h buf) ≡ n))
 halt-numbers-written ns h s buf = go (tells_halt ns)
   where
     go : (t : Bool) → let w = write_answer (t && legal nineteen_codec h) (frame_of nineteen_codec h) buf in
-        (answer_part (write_outcome w) ≡ written_number w) × ((n : ℕ) → w ≡ Done n → (n ≤ 1024) × (length_part (write_outcome w) ≡ n))
+        (answer_part (write_outcome w) ≡ written_number w) × ((n : ℕ) → w ≡ Ok n → (n ≤ 1024) × (length_part (write_outcome w) ≡ n))
     go true = halt-written h s buf
     go false = (refl, λ n e. let z : ◌≡◌ {A = ℕ} 0 1 = cc in absurd (omega arith))

@@ -1,3 +1,2 @@
 -- The laws that the proofs cite, and the theorems that belong to no one function.
-pub mod HandedOn
 pub mod Determined

@@ -1,24 +1,25 @@
 -- What the ledger's calls answer, in one number.
-use Rattle.std.specs.Prelude.{ℕ, ◌+◌, ◌*◌, ◌/◌, ◌%◌}
+use Rattle.std.specs.Prelude.{ℕ, ◌+◌, ◌*◌, ◌/◌, ◌%◌, Result, Ok, Err}
+use Rattle.ledger.specs.Calls.{error_number}
 use Rattle.ledger.specs.declared.Arrival.{Arrival}
-use Rattle.ledger.specs.declared.Figure.{Figure}
-use Rattle.ledger.specs.declared.RunAt.{RunAt}
+use Rattle.ledger.specs.declared.Run.{Run}
+use Rattle.ledger.specs.declared.LedgerError.{LedgerError}
 
 -- of an arrival: above the answer stands how many numbers more are heard
-abbrev pub arrival_outcome : Arrival → ℕ
-arrival_outcome Arrival.New = 256
-arrival_outcome Arrival.Repeat = 0
-arrival_outcome (Arrival.Refused n) = n
+abbrev pub arrival_outcome : Result Arrival LedgerError → ℕ
+arrival_outcome (Ok Arrival.New) = 256
+arrival_outcome (Ok Arrival.Repeat) = 0
+arrival_outcome (Err e) = error_number e
 
 -- of a question for a figure, which stands above the answer
-abbrev pub figure_outcome : Figure → ℕ
-figure_outcome (Figure.Is n) = 256 * n
-figure_outcome (Figure.Refused n) = n
+abbrev pub figure_outcome : Result ℕ LedgerError → ℕ
+figure_outcome (Ok n) = 256 * n
+figure_outcome (Err e) = error_number e
 
 -- of a question for a run: above the answer its first number in 28 bits, then its last
-abbrev pub run_outcome : RunAt → ℕ
-run_outcome (RunAt.Run first last) = 256 * (first % 268435456) + 68719476736 * (last % 268435456)
-run_outcome (RunAt.Refused n) = n
+abbrev pub run_outcome : Result Run LedgerError → ℕ
+run_outcome (Ok r) = 256 * (r.first % 268435456) + 68719476736 * (r.last % 268435456)
+run_outcome (Err e) = error_number e
 
 -- the two parts of it
 abbrev pub first_part : ℕ → ℕ

@@ -1,4 +1,5 @@
 -- The outcome of a move along a line tells the move, whatever the reading is, and four numbers tell a tally.
+use Rattle.std.specs.Prelude.{None, Option, Some}
 use Prim.Native.Nat.{ℕ, ◌≤◌}
 use mathlib.Core.Path.{◌≡◌, refl, ap, ◌∙◌}
 use mathlib.Core.Bool.{Bool, true, false, cond, not, ◌&&◌, ◌||◌}
@@ -15,21 +16,21 @@ use Rattle.walk.specs.Walk.{is_whole, taken, stops}
 use Rattle.walk.specs.Answers.{answering}
 use Rattle.walk.specs.Sound.{Sound}
 use Rattle.walk.specs.Lines.{move_at, step_number}
-use Rattle.walk.specs.declared.moves.Step.{Step}
 use Rattle.walk.specs.declared.tally.Tally.{Tally}
 use Rattle.walk.proofs.WalkLaws.{takes-some}
 use Rattle.c_outcomes.specs.Outcomes.{answer_part, format_part, length_part, seq_part, place_from, past_outcome}
 use Rattle.c_outcomes.specs.Walking.{move_outcome, tally_from, tally_numbers}
 use Rattle.c_outcomes.proofs.OutcomeLaws.{Tellable, answer_in, number_in, frame-in, place_in, answer-short, past_back}
+use Rattle.walk.specs.declared.rows.Row.{Row}
 
 -- the bytes that a walk goes past where it moves; none where it stops
-abbrev pub step_bytes : Step → ℕ
-step_bytes (Step.Moved row) = row.bytes
-step_bytes Step.Stopped = 0
+abbrev pub step_bytes : Option Row → ℕ
+step_bytes (Some row) = row.bytes
+step_bytes None = 0
 
 -- the move that an outcome tells at a place
-abbrev pub step_in : ℕ → ℕ → Step
-step_in at x = cond (eqb (length_part x) 0) Step.Stopped (Step.Moved (record { at = at; bytes = length_part x; answer = answer_in x }))
+abbrev pub step_in : ℕ → ℕ → Option Row
+step_in at x = cond (eqb (length_part x) 0) None (Some (record { at = at; bytes = length_part x; answer = answer_in x }))
 
 -- ---- the bytes of a move
 -- a number that is none of 1 to 5 moves past the whole frame
@@ -66,8 +67,8 @@ module _ (says : List ℕ → Answer) (tells : (t : List ℕ) → Tellable (says
     from = drop at line
 
     -- the move at a place, where the walk stops and where it does not
-    abbrev step : Bool → Step
-    step s = cond s Step.Stopped (Step.Moved (record { at = at; bytes = past from; answer = says from }))
+    abbrev step : Bool → Option Row
+    step s = cond s None (Some (record { at = at; bytes = past from; answer = says from }))
 
     -- a move's outcome tells it at its place: that the walk stops, or the answer with the frame's format, length and number, and the bytes
     pub move-back : step_in at (move_outcome (move_at says closed at line)) ≡ move_at says closed at line
@@ -78,8 +79,8 @@ module _ (says : List ℕ → Answer) (tells : (t : List ℕ) → Tellable (says
         go false =
             let p = past-told from in
             let some = takes-some (answering says) longest sound from in
-            (λ i. cond (eqb (p.1 i) 0) Step.Stopped (Step.Moved (record { at = at; bytes = p.1 i; answer = p.0 i })))
-            ∙ ap (λ (z : Bool). cond z Step.Stopped (step false)) (ne_eqb (past from) 0 (λ z. omega (arith, z, some)))
+            (λ i. cond (eqb (p.1 i) 0) None (Some (record { at = at; bytes = p.1 i; answer = p.0 i })))
+            ∙ ap (λ (z : Bool). cond z None (step false)) (ne_eqb (past from) 0 (λ z. omega (arith, z, some)))
 
     -- it has the answer's number, and the bytes that the move goes past
     pub move-told : (answer_part (move_outcome (move_at says closed at line)) ≡ step_number (move_at says closed at line))

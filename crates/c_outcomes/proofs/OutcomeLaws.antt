@@ -1,4 +1,5 @@
 -- An outcome tells what it was made from: nothing of an answer is lost in its one number.
+use Rattle.std.specs.Prelude.{Err, None, Ok, Option, Some}
 use Prim.Native.Nat.{ℕ, ◌%◌, ◌≤◌, ◌<◌}
 use mathlib.Core.Path.{◌≡◌, refl, sym, ap, ap₂, ◌∙◌, subst}
 use mathlib.Core.Bool.{Bool, true, false, cond}
@@ -9,18 +10,16 @@ use native.Mathlib.Omega.{arith}
 use lib.ListN.{length}
 use lib.Dec.{eqb, leb}
 use borrow.Author.Tests.{eqb-true, ne_eqb, leb-false}
-use Rattle.digits.specs.declared.halves.Place.{Place}
-use Rattle.digits.specs.declared.halves.Place.TheVariants.{None, Half}
 use Rattle.layout.specs.Checks.{Check, must, first_fail}
 use Rattle.answers.specs.Answers.{named, answer_number, answer_length, answer_place, written_number}
 use Rattle.answers.specs.declared.Frame.{Frame}
 use Rattle.answers.specs.declared.Answer.{Answer}
 use Rattle.answers.specs.declared.Answer.TheVariants.{Accepted, NoFrame, Refused}
-use Rattle.answers.specs.declared.Written.TheVariants.{Done, Illegal, NoRoom}
 use Rattle.frame.specs.Writing.{write_answer}
 use Rattle.stock_frame.proofs.FigureLaws.{number-named}
 use Rattle.c_outcomes.specs.Lent.{is_of}
 use Rattle.c_outcomes.specs.Outcomes.{outcome, answer_part, format_part, length_part, seq_part, place_number, place_from, read_outcome, past_outcome, write_outcome}
+use Rattle.answers.specs.declared.WriteError.TheVariants.{Illegal, NoRoom}
 
 -- the four parts of an outcome are what it was made from
 pub outcome-parts : (a f l s : ℕ) → a < 256 → f < 256 → l < 65536
@@ -61,12 +60,12 @@ place_in x a e other = go (eqb (answer_part x) 0) (leb (answer_part x) 5) refl e
     go false false z q = ap answer_place q
 
 -- a place below the largest that 32 bits can tell is told
-pub place-back : (p : Place) → ((q : ℕ) → p ≡ Half q → q < 4294967295) → place_from (place_number p) ≡ p
+pub place-back : (p : Option ℕ) → ((q : ℕ) → p ≡ Some q → q < 4294967295) → place_from (place_number p) ≡ p
 place-back None h = refl
-place-back (Half q) h = ap place_from (add-one (q % 4294967295)) ∙ ap Half (mod-eq_of_lt (h q refl))
+place-back (Some q) h = ap place_from (add-one (q % 4294967295)) ∙ ap Some (mod-eq_of_lt (h q refl))
 
 -- the outcome of an answer with some bytes tells both, where the bytes are those of the frame, if there is one
-told : (n bytes : ℕ) (f : Frame) (p : Place) → n ≤ 13 → bytes < 65536 → (n ≡ 0 → f.format < 256) → place_from (place_number p) ≡ p
+told : (n bytes : ℕ) (f : Frame) (p : Option ℕ) → n ≤ 13 → bytes < 65536 → (n ≡ 0 → f.format < 256) → place_from (place_number p) ≡ p
     → ((1 ≤ n → n ≤ 5 → ⊥) → bytes ≡ answer_length (named n f p))
     → let x = past_outcome (named n f p) bytes in (answer_in x ≡ named n f p) × (length_part x ≡ bytes)
 told n bytes f p few small low back = go (eqb n 0) (leb n 5) refl refl
@@ -89,7 +88,7 @@ told n bytes f p few small low back = go (eqb n 0) (leb n 5) refl refl
         (ap (λ (k : ℕ). named k (frame_in x) (place_from (seq_part x))) o.0 ∙ rw (e, q) (ap₂ (Refused n) long (ap place_from o.3 ∙ back)), o.2)
 
 -- the length beside an answer is that of a frame, or 0
-length-small : (n : ℕ) (f : Frame) (p : Place) → ((1 ≤ n → n ≤ 5 → ⊥) → f.length ≤ 1024) → answer_length (named n f p) ≤ 1024
+length-small : (n : ℕ) (f : Frame) (p : Option ℕ) → ((1 ≤ n → n ≤ 5 → ⊥) → f.length ≤ 1024) → answer_length (named n f p) ≤ 1024
 length-small n f p long = go (eqb n 0) (leb n 5) refl refl
   where
     go : (x y : Bool) → eqb n 0 ≡ x → leb n 5 ≡ y → answer_length (cond x (Accepted f) (cond y (NoFrame n p) (Refused n f.length p))) ≤ 1024
@@ -98,7 +97,7 @@ length-small n f p long = go (eqb n 0) (leb n 5) refl refl
     go false false e q = long (λ u v. omega (arith, leb-false n 5 q))
 
 -- the format stands beside acceptance only
-format-beside : (n : ℕ) (f : Frame) (p : Place) (k : ℕ) → n ≤ 13 → (n ≡ 0 → f.format < 256) → 1 ≤ k → is_of k (named n f p) ≡ eqb (format_part (read_outcome (named n f p))) k
+format-beside : (n : ℕ) (f : Frame) (p : Option ℕ) (k : ℕ) → n ≤ 13 → (n ≡ 0 → f.format < 256) → 1 ≤ k → is_of k (named n f p) ≡ eqb (format_part (read_outcome (named n f p))) k
 format-beside n f p k few low one = go (eqb n 0) (leb n 5) refl
   where
     none : (l s : ℕ) → false ≡ eqb (format_part (outcome n 0 l s)) k
@@ -130,12 +129,12 @@ right-before n false b c d rs e h = absurd (h (omega arith) (omega arith))
 -- an answer whose number, format, length and place have room in an outcome
 pub record Tellable (a : Answer) : Type 0 where
   pub frame : Frame
-  pub place : Place
+  pub place : Option ℕ
   pub is-named : a ≡ named (answer_number a) frame place
   pub few : answer_number a ≤ 13
   pub low : answer_number a ≡ 0 → frame.format < 256
   pub short : (1 ≤ answer_number a → answer_number a ≤ 5 → ⊥) → frame.length ≤ 1024
-  pub near : (q : ℕ) → place ≡ Half q → q < 4294967295
+  pub near : (q : ℕ) → place ≡ Some q → q < 4294967295
 
 module _ (a : Answer) (h : Tellable a) where
   -- the length beside it is at most 1,024
@@ -178,16 +177,16 @@ module _ (a : Answer) (h : Tellable a) where
 
 -- ---- the answers of a writing
 -- a writing's outcome has its length, and answer 0
-pub write-told : (n : ℕ) → n < 65536 → (answer_part (write_outcome (Done n)) ≡ 0) × (length_part (write_outcome (Done n)) ≡ n)
+pub write-told : (n : ℕ) → n < 65536 → (answer_part (write_outcome (Ok n)) ≡ 0) × (length_part (write_outcome (Ok n)) ≡ n)
 write-told n h = let o = outcome-parts 0 0 n 0 (omega arith) (omega arith) h in (o.0, o.2)
 
 -- the outcome of writing a frame that is short where it is legal has the answer's number, and where it is done the length, which is at most 1,024
 pub writing-told : (legal : Bool) (f buf : List ℕ) → (legal ≡ true → length f ≤ 1024) → let w = write_answer legal f buf in
-    (answer_part (write_outcome w) ≡ written_number w) × ((n : ℕ) → w ≡ Done n → (n ≤ 1024) × (length_part (write_outcome w) ≡ n))
+    (answer_part (write_outcome w) ≡ written_number w) × ((n : ℕ) → w ≡ Ok n → (n ≤ 1024) × (length_part (write_outcome w) ≡ n))
 writing-told legal f buf short = go legal (leb (length f) (length buf)) short
   where
-    go : (t u : Bool) → (t ≡ true → length f ≤ 1024) → let w = cond t (cond u (Done (length f)) NoRoom) Illegal in
-        (answer_part (write_outcome w) ≡ written_number w) × ((n : ℕ) → w ≡ Done n → (n ≤ 1024) × (length_part (write_outcome w) ≡ n))
+    go : (t u : Bool) → (t ≡ true → length f ≤ 1024) → let w = cond t (cond u (Ok (length f)) (Err NoRoom)) (Err Illegal) in
+        (answer_part (write_outcome w) ≡ written_number w) × ((n : ℕ) → w ≡ Ok n → (n ≤ 1024) × (length_part (write_outcome w) ≡ n))
     go true true s =
         let h = s refl in
         let o = write-told (length f) (omega arith) in

@@ -6,9 +6,8 @@ ghost use Rattle.c_outcomes.specs.Outcomes.{outcome, place_number, read_outcome,
 ghost use Rattle.c_outcomes.specs.Lent.{is_of};
 ghost use Rattle.c_outcomes.specs.Walking.{move_outcome};
 
-use answers::{Answer, Written};
-use digits::halves::Place;
-use walk::moves::Step;
+use answers::{Answer, WriteError};
+use walk::rows::Row;
 
 // The answer in 8 bits, then the format in 8, the length in 16 and in 32 the sequence number, of a refusal a place.
 fn packed(answer: u8, format: u8, length: usize, seq: u32) -> u64
@@ -19,12 +18,12 @@ fn packed(answer: u8, format: u8, length: usize, seq: u32) -> u64
 }
 
 // A place in 32 bits: one more than it, and 0 where there is none.
-fn place_number(place: Place) -> u32
+fn place_number(place: Option<u32>) -> u32
     ensures { result ≡ place_number place }
 {
     match place {
-        Place::None => 0,
-        Place::Half(p) => p % 4294967295 + 1,
+        None => 0,
+        Some(p) => p % 4294967295 + 1,
     }
 }
 
@@ -51,26 +50,26 @@ pub fn of_move(answer: Answer, bytes: u64) -> u64
 }
 
 // Of a step of a walk: the bytes that a move goes past in the length's place, 0 where the walk stops.
-pub fn of_step(step: Step) -> u64
+pub fn of_step(step: Option<Row>) -> u64
     ensures { result ≡ move_outcome step }
 {
     match step {
-        Step::Moved(row) => {
+        Some(row) => {
             let answer = row.answer;
             of_move(answer, row.bytes)
         }
-        Step::Stopped => of_answer(Answer::NoFrame(2, Place::None)),
+        None => of_answer(Answer::NoFrame(2, None)),
     }
 }
 
 // Of a writing.
-pub fn of_written(written: Written) -> u64
+pub fn of_written(written: Result<usize, WriteError>) -> u64
     ensures { result ≡ write_outcome written }
 {
     match written {
-        Written::Done(length) => packed(0, 0, length, 0),
-        Written::Illegal => packed(14, 0, 0, 0),
-        Written::NoRoom => packed(15, 0, 0, 0),
+        Ok(length) => packed(0, 0, length, 0),
+        Err(WriteError::Illegal) => packed(14, 0, 0, 0),
+        Err(WriteError::NoRoom) => packed(15, 0, 0, 0),
     }
 }
 

@@ -36,11 +36,8 @@ pub(crate) fn slot_codes(slots: [Slot; 10]) -> [u8; 60]
     ensures { result ≡ slot_codes slots }
 {
     let mut codes = no_codes();
-    let mut i = 0;
-    while i < 10 {
-        let s = slots[i];
-        put_code(s, &mut codes, 6 * i);
-        i += 1;
+    for (i, slot) in slots.iter().enumerate() {
+        put_code(*slot, &mut codes, 6 * i);
     }
     codes
 }
@@ -62,11 +59,8 @@ pub(crate) fn slot_amounts(slots: [Slot; 10]) -> [u32; 50]
     ensures { result ≡ slot_amounts slots }
 {
     let mut amounts = no_amounts();
-    let mut i = 0;
-    while i < 10 {
-        let s = slots[i];
-        put_amounts(s, &mut amounts, 5 * i);
-        i += 1;
+    for (i, slot) in slots.iter().enumerate() {
+        put_amounts(*slot, &mut amounts, 5 * i);
     }
     amounts
 }

@@ -2,6 +2,10 @@
 // read: it is cleared, judged and read. It knows nothing of what the payloads are.
 #![tactic(auto)]
 
+ghost use Rattle.std.specs.Prelude.{◌≡◌};
+ghost use Rattle.capture.specs.declared.Unsound.TheVariants.{WrongSize};
+ghost use Rattle.capture.specs.Calls.{size_number, unsound_number};
+
 mod blocks;
 pub mod reading;
 mod searches;
@@ -15,32 +19,51 @@ pub const MOST: usize = 504;
 
 pub const SIZE: usize = 65536;
 
-// What clearing answers.
-#[derive(Clone, Copy)]
-pub enum Cleared {
-    // 0
-    Done,
+// Lent memory has not 65,536 bytes.
+#[derive(Clone, Copy, Debug, PartialEq, Eq)]
+pub struct OtherSize;
+
+impl OtherSize {
     // 34
-    Refused(u8),
+    pub fn number(self) -> u8
+        ensures { result ≡ size_number self }
+    {
+        34
+    }
 }
 
-// How many blocks are finished.
-#[derive(Clone, Copy)]
-pub enum Held {
-    Blocks(usize),
-    // 34
-    Refused(u8),
-    // 33, and the place of the first bad block
-    Bad(usize),
+// Why a capture is not read.
+#[derive(Clone, Copy, Debug, PartialEq, Eq)]
+pub enum Unsound {
+    // it has not 65,536 bytes
+    WrongSize,
+    // the place of the first bad block
+    BadBlock(usize),
 }
 
-// A payload, as a part of the capture.
-#[derive(Clone, Copy)]
-pub enum Part {
-    // where it begins, and how many bytes it has
-    Bytes(usize, usize),
-    // 34
-    Refused(u8),
-    // 33, and the place of the first bad block
-    Bad(usize),
+impl Unsound {
+    // 34 or 33
+    pub fn number(self) -> u8
+        ensures { result ≡ unsound_number self }
+    {
+        match self {
+            Unsound::WrongSize => OtherSize.number(),
+            Unsound::BadBlock(_) => 33,
+        }
+    }
+}
+
+impl From<OtherSize> for Unsound {
+    ghost from_gives = { λ _ e. e ≡ WrongSize };
+
+    fn from(_e: OtherSize) -> Unsound {
+        Unsound::WrongSize
+    }
+}
+
+// A payload, as a part of the capture: where it begins, and how many bytes it has.
+#[derive(Clone, Copy, Debug, PartialEq, Eq)]
+pub struct Part {
+    pub start: usize,
+    pub length: usize,
 }

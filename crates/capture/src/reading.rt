@@ -1,78 +1,78 @@
 // The calls that clear a capture and read it.
-ghost use Rattle.std.specs.Prelude.{◌≡◌, ◌≤◌, length};
-ghost use Rattle.capture.specs.Captures.{capture_size, places, start_of};
+ghost use Rattle.std.specs.Prelude.{◌≡◌, ◌≢◌, ◌≤◌, length, MatchResult};
+ghost use Rattle.capture.specs.Captures.{capture_size, places};
 ghost use Rattle.capture.specs.Calls.{cleared_of, cleared_bytes, held_of, part_of};
 ghost use Rattle.capture.specs.Searches.{part_in};
 
-use crate::blocks::used_bytes;
+use crate::blocks::{block_at, used_bytes};
 use crate::searches::{numbered_behind, sound_first};
-use crate::{BLOCK, Cleared, Held, Part, SIZE};
+use crate::{BLOCK, OtherSize, Part, SIZE, Unsound};
+
+// Lent memory as a capture.
+fn sized(memory: &[u8]) -> Result<&[u8; SIZE], OtherSize>
+    ensures { MatchResult result (λ capture. (capture.now ≡ memory.now) × (length memory.now ≡ capture_size)) (λ _. length memory.now ≢ capture_size) }
+{
+    memory.as_array::<SIZE>().ok_or(OtherSize)
+}
 
 // Makes a fresh capture of lent memory: all zeros. 34 where it has not 65,536 bytes.
-pub fn clear(capture: &mut [u8]) -> Cleared
+pub fn clear(capture: &mut [u8]) -> Result<(), OtherSize>
     ensures value { result ≡ cleared_of capture.old }
     ensures capture_after { capture.new ≡ cleared_bytes capture.old }
 {
     if capture.len() != SIZE {
-        return Cleared::Refused(34);
+        return Err(OtherSize);
     }
-    let mut i = 0;
-    while i < capture.len() {
-        capture[i] = 0;
-        i += 1;
+    capture.fill(0);
+    Ok(())
+}
+
+// How many blocks of a capture are finished, or the first bad one.
+fn judged(capture: &[u8; SIZE]) -> Result<usize, Unsound>
+    ensures { result ≡ held_of capture.now }
+{
+    let n = sound_first(capture);
+    match numbered_behind(capture, n) {
+        Some(p) => Err(Unsound::BadBlock(p)),
+        None => Ok(n),
     }
-    Cleared::Done
 }
 
 // How many blocks are finished, 34 or 33.
-pub fn finished(capture: &[u8]) -> Held
+pub fn finished(capture: &[u8]) -> Result<usize, Unsound>
     ensures { result ≡ held_of capture.now }
 {
-    if capture.len() != SIZE {
-        return Held::Refused(34);
-    }
-    let n = sound_first(capture);
-    let p = numbered_behind(capture, n);
-    if p != 0 {
-        return Held::Bad(p);
-    }
-    Held::Blocks(n)
+    judged(sized(capture)?)
 }
 
-// Where the block at a place begins; place 0 begins where the first does, as in the definition.
-fn start_of(place: usize) -> usize
-    requires { place ≤ places }
-    ensures { result ≡ start_of place }
-{
-    if place == 0 {
-        return 0;
-    }
-    BLOCK * (place - 1)
-}
+// What stands at a place where there is no payload.
+const NOTHING: Part = Part {
+    start: 0,
+    length: 0,
+};
 
 // The payload at a place of a capture in which no block is bad, and of which so many are finished.
-fn finished_part(capture: &[u8], n: usize, place: usize) -> Part
-    requires { (length capture.now ≡ capture_size) × (n ≤ places) }
+fn finished_part(capture: &[u8; SIZE], n: usize, place: usize) -> Part
+    requires { n ≤ places }
     ensures { result ≡ part_in capture.now n place }
 {
     if place < 1 {
-        return Part::Bytes(0, 0);
+        return NOTHING;
     }
     if n < place {
-        return Part::Bytes(0, 0);
+        return NOTHING;
     }
-    let start = start_of(place);
-    let end = start + BLOCK;
-    Part::Bytes(start + 6, used_bytes(&capture[start..end]))
+    Part {
+        start: BLOCK * (place - 1) + 6,
+        length: used_bytes(block_at(capture, place - 1)),
+    }
 }
 
 // The payload at a place, empty if there is no such place or its block is unfinished; 34 or 33.
-pub fn payload_at(capture: &[u8], place: usize) -> Part
+pub fn payload_at(capture: &[u8], place: usize) -> Result<Part, Unsound>
     ensures { result ≡ part_of capture.now place }
 {
-    match finished(capture) {
-        Held::Blocks(n) => finished_part(capture, n, place),
-        Held::Refused(n) => Part::Refused(n),
-        Held::Bad(p) => Part::Bad(p),
-    }
+    let capture = sized(capture)?;
+    let n = judged(capture)?;
+    Ok(finished_part(capture, n, place))
 }

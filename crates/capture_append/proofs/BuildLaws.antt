@@ -14,9 +14,6 @@ pub headed-is : (z : List ℕ) → z ≡ replicate 512 0 → (p hi lo : ℕ)
     → set (set (set z 3 p) 4 hi) 5 lo ≡ 0 ∷ 0 ∷ 0 ∷ p ∷ hi ∷ lo ∷ replicate 506 0
 headed-is z is p hi lo = rw is refl
 
-pub headed-long : (d : List ℕ) (p hi lo : ℕ) → d ≡ 0 ∷ 0 ∷ 0 ∷ p ∷ hi ∷ lo ∷ replicate 506 0 → length d ≡ 512
-headed-long d p hi lo is = ap length is
-
 -- zeros less so many, and two zeros more
 abbrev zeros : ℕ → List ℕ
 zeros k = replicate k 0

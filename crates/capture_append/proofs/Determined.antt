@@ -10,6 +10,9 @@ use Rattle.capture_append.proofs.append.Reads as areads
 use Rattle.capture_append.specs.contracts.append_cut as append-cut
 use Rattle.capture_append.proofs.append_cut.Kinds as cown
 use Rattle.capture_append.proofs.append_cut.Reads as creads
+use Rattle.capture_append.specs.contracts.AppendError.number as append-error-number
+use Rattle.capture_append.proofs.AppendError.number.Kinds as append-error-number-kinds
+use Rattle.capture_append.proofs.AppendError.number.Reads as append-error-number-reads
 
 -- an append
 pub determined-append : (κs : Lifetimes.Lfts 2) (a : World.ArgsD append.signature κs) (r₁ r₂ : World.ResD append.signature κs)
@@ -22,3 +25,9 @@ pub determined-append-cut : (κs : Lifetimes.Lfts 2) (a : World.ArgsD append-cut
     (s₁ s₂ : Clauses.AtExit (kinds.ended_of 2 cown.ps cown.r) κs) → creads.Post κs a r₁ s₁ → creads.Post κs a r₂ s₂
     → (r₁ ≡ r₂) × (s₁.0.now ≡ s₂.0.now)
 determined-append-cut κs a r₁ r₂ s₁ s₂ p q = (p.0 ∙ sym q.0, p.1 ∙ sym q.1)
+
+-- what `AppendError::number` gives
+pub determined-AppendError-number : (κs : Lifetimes.Lfts 0) (a : World.ArgsD append-error-number.signature κs) (r₁ r₂ : World.ResD append-error-number.signature κs)
+    (s₁ s₂ : Clauses.AtExit (kinds.ended_of 0 append-error-number-kinds.ps append-error-number-kinds.r) κs) → append-error-number-reads.Post κs a r₁ s₁ → append-error-number-reads.Post κs a r₂ s₂
+    → r₁ ≡ r₂
+determined-AppendError-number κs a r₁ r₂ s₁ s₂ p q = p ∙ sym q

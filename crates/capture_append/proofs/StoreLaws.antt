@@ -1,5 +1,5 @@
 -- Stores one after the other.
-use Prim.Native.Nat.{ℕ, suc, ◌+◌, min}
+use Prim.Native.Nat.{ℕ, suc, ◌+◌}
 use mathlib.Core.Path.{◌≡◌, ap, ◌∙◌}
 use mathlib.Core.List.{List}
 use native.Mathlib.Omega.{arith}
@@ -14,7 +14,3 @@ store-next m start b j e after is next =
 
 pub store_long : (m e after : List ℕ) (start : ℕ) (b : List ℕ) (j : ℕ) → length e ≡ length m → after ≡ store_of e start b j → length after ≡ length m
 store_long m e after start b j same is = ap length is ∙ length-set e (start + stored_byte j) (get_or b (stored_byte j) 0) ∙ same
-
-pub stores-end : (m : List ℕ) (start : ℕ) (b : List ℕ) (j count : ℕ) (e : List ℕ) → e ≡ stored_from m start b j → j ≡ min count 512
-    → e ≡ stored_from m start b (min count 512)
-stores-end m start b j count e is end = is ∙ ap (stored_from m start b) end

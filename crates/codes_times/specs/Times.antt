@@ -1,5 +1,6 @@
 -- Times and codes: rules on the numbers that cells hold.
-use Rattle.std.specs.Prelude.{ℕ, ◌+◌, ◌-◌, ◌/◌, ◌%◌, ◌^◌, Bool, true, cond, ◌&&◌, List, [], ◌∷◌, length, take, drop, replicate, eqb, leb, ltb}
+use Rattle.std.specs.List.{list_all}
+use Rattle.std.specs.Prelude.{ℕ, ◌+◌, ◌-◌, ◌/◌, ◌%◌, ◌^◌, Bool, cond, ◌&&◌, List, length, take, drop, replicate, eqb, leb, ltb}
 
 -- a time of day: hours 00-23, minutes and seconds 00-59, then k digits of a free fraction
 abbrev pub time_of_day : ℕ → ℕ → Bool
@@ -11,8 +12,7 @@ nines k = 10 ^ (k + 6) - 1
 
 -- a test that every byte passes
 abbrev pub every : (ℕ → Bool) → List ℕ → Bool
-every p [] = true
-every p (b ∷ bs) = p b && every p bs
+every p bs = list_all p bs
 
 -- the six bytes of a code at a place; past the end there are none, and zeros stand for them
 abbrev pub code_at : List ℕ → ℕ → List ℕ

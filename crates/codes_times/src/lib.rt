@@ -21,32 +21,14 @@ pub fn code_at(s: &[u8], at: usize) -> [u8; 6]
 pub fn code_right(code: &[u8]) -> bool
     ensures { result ≡ code_right code.now }
 {
-    let mut i = 0;
-    while i < code.len() {
-        let b = code[i];
-        if b < 32 {
-            return false;
-        }
-        if 126 < b {
-            return false;
-        }
-        i += 1;
-    }
-    true
+    code.iter().all(|&b| 32 <= b && b <= 126)
 }
 
 // Every byte of a code is the digit 0.
 pub fn zero_code(code: &[u8]) -> bool
     ensures { result ≡ zero_code code.now }
 {
-    let mut i = 0;
-    while i < code.len() {
-        if code[i] != 48 {
-            return false;
-        }
-        i += 1;
-    }
-    true
+    code.iter().all(|&b| 48 == b)
 }
 
 // HHMMSS is a time of day.

@@ -1,17 +1,17 @@
 -- Closing a frame: the header's numbers written one behind another, and what then stands in the buffer.
+use Rattle.std.specs.Prelude.{Ok}
 use Prim.Native.Nat.{ℕ, ◌-◌, ◌^◌, ◌≤◌, ◌<◌}
 use mathlib.Core.Path.{◌≡◌, refl, sym, ap, ◌∙◌}
-use mathlib.Core.Bool.{true, false}
+use mathlib.Core.Bool.{true}
 use mathlib.Core.List.{List, [], ◌∷◌, ◌++◌}
 use native.Mathlib.Omega.{arith}
 use lib.ListN.{length, take, drop, set}
 use lib.Seq.{sets}
-use borrow.Author.Tests.{lt-ltb, le-ltb, le-leb, lt-leb}
+use borrow.Author.Tests.{lt-ltb, le-leb}
 use Rattle.digits.specs.Packed.{packed}
 use Rattle.digits.specs.Fields.{put_at}
 use Rattle.words.specs.Xor.{xor_of}
 use Rattle.layout.proofs.PutLaws.{put-behind}
-use Rattle.answers.specs.declared.Written.TheVariants.{Done, Illegal, NoRoom}
 use Rattle.frame.specs.Writing.{sealed, head_bytes}
 use Rattle.frame.proofs.CloseLaws.{covered, length-placed, ended-stores}
 use Rattle.derivatives_frame.specs.Outline.{header}
@@ -39,37 +39,15 @@ module _ (market kind sent seq version n : ℕ) (s s₁ s₂ s₃ s₄ : List �
       let p₃ : s₃ ≡ sets s 1 upto₃ = w₃ ∙ put-behind version 1 upto₂ s s₂ 1 11 p₂ refl (omega arith) (omega arith) (omega arith) in
       w₄ ∙ put-behind n 2 upto₃ s s₃ 1 12 p₃ refl (omega arith) (omega arith) (omega arith)
 
--- ---- the answers
+-- ---- what closing answers and leaves
 module _ (market kind sent seq version n : ℕ) (buf : List ℕ) where
-  -- a refusal leaves the buffer
-  refused : closable sent seq version n ≡ false → (Illegal ≡ close_answer sent seq version n buf) × (buf ≡ closed_over market kind sent seq version n buf)
-  refused e = rw e (refl, refl)
-
-  pub close-sent : 99999999 < sent → (Illegal ≡ close_answer sent seq version n buf) × (buf ≡ closed_over market kind sent seq version n buf)
-  close-sent h = refused (rw (le-ltb sent (10 ^ 8) h))
-
   module _ (ht : sent < 10 ^ 8) where
-    pub close-seq : 99999999 < seq → (Illegal ≡ close_answer sent seq version n buf) × (buf ≡ closed_over market kind sent seq version n buf)
-    close-seq h = refused (rw (lt-ltb sent (10 ^ 8) ht, le-ltb seq (10 ^ 8) h))
-
     module _ (hs : seq < 10 ^ 8) where
-      pub close-version : 99 < version → (Illegal ≡ close_answer sent seq version n buf) × (buf ≡ closed_over market kind sent seq version n buf)
-      close-version h = refused (rw (lt-ltb sent (10 ^ 8) ht, lt-ltb seq (10 ^ 8) hs, le-ltb version 100 h))
-
       module _ (hv : version < 100) where
-        pub close-short : n < 17 → (Illegal ≡ close_answer sent seq version n buf) × (buf ≡ closed_over market kind sent seq version n buf)
-        close-short h = refused (rw (lt-ltb sent (10 ^ 8) ht, lt-ltb seq (10 ^ 8) hs, lt-ltb version 100 hv, lt-leb 17 n h))
-
         module _ (low : 17 ≤ n) where
-          pub close-long : 1024 < n → (Illegal ≡ close_answer sent seq version n buf) × (buf ≡ closed_over market kind sent seq version n buf)
-          close-long h = refused (rw (lt-ltb sent (10 ^ 8) ht, lt-ltb seq (10 ^ 8) hs, lt-ltb version 100 hv, le-leb 17 n low, lt-leb n 1024 h))
-
           module _ (high : n ≤ 1024) where
             pub closable-all : closable sent seq version n ≡ true
             closable-all = rw (lt-ltb sent (10 ^ 8) ht, lt-ltb seq (10 ^ 8) hs, lt-ltb version 100 hv, le-leb 17 n low, le-leb n 1024 high)
-
-            pub close-room : length buf < n → (NoRoom ≡ close_answer sent seq version n buf) × (buf ≡ closed_over market kind sent seq version n buf)
-            close-room h = rw (closable-all, lt-leb n (length buf) h) (refl, refl)
 
             module _ (fit : n ≤ length buf) where
               abbrev head : ℕ → List ℕ
@@ -77,7 +55,7 @@ module _ (market kind sent seq version n : ℕ) (buf : List ℕ) where
 
               -- t is the buffer with 27 and the header, and x the check byte over it
               pub close-done : (t : List ℕ) (x : ℕ) → t ≡ sets (set buf 0 27) 1 (head (n - 17)) → x ≡ xor_of (take (n - 3 - 1) (drop 1 t))
-                  → (Done n ≡ close_answer sent seq version n buf)
+                  → (Ok n ≡ close_answer sent seq version n buf)
                   × (set (set (set t (n - 3) x) (n - 2) 13) (n - 1) 10 ≡ closed_over market kind sent seq version n buf)
               close-done t x so e =
                   let b = take (n - 17) (drop 14 buf) in

@@ -1,6 +1,5 @@
 -- The laws that the proofs cite, and the theorems that belong to no one function.
 pub mod HeaderHolds
-pub mod LengthSteps
 pub mod PlaceSteps
 pub mod HeadSteps
 pub mod OutlineSteps

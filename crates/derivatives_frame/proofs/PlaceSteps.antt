@@ -1,4 +1,5 @@
 -- Where a header's first bad digit is: the parts of a line that are looked at.
+use Rattle.std.specs.Prelude.{Option}
 use Prim.Native.Nat.{ℕ, ◌+◌, ◌-◌, ◌≤◌}
 use mathlib.Core.Path.{◌≡◌, sym, ap, ◌∙◌}
 use mathlib.Core.List.{List}
@@ -6,14 +7,13 @@ use native.Mathlib.Omega.{arith}
 use lib.ListN.{length, take, drop, length-drop}
 use lib.Seq.{take_all, drop-drop}
 use Rattle.digits.specs.Halves.{looked}
-use Rattle.digits.specs.declared.halves.Place.{Place}
 use Rattle.layout.specs.Places.{first_bad}
 use Rattle.layout.proofs.PlaceLaws.{length-take-most, else-right}
 use Rattle.frame.specs.Header.{length_cells, length_bytes, head_bad}
 use Rattle.derivatives_frame.specs.Outline.{header}
 
 -- the two bytes of the length
-pub length_part : (line : List ℕ) (at : ℕ) (p : Place) → p ≡ first_bad length_cells 24 (looked (take (at + 14 - (at + 12)) (drop (at + 12) line)))
+pub length_part : (line : List ℕ) (at : ℕ) (p : Option ℕ) → p ≡ first_bad length_cells 24 (looked (take (at + 14 - (at + 12)) (drop (at + 12) line)))
     → p ≡ first_bad length_cells 24 (length_bytes header (drop at line))
 length_part line at p is =
     let e : at + 14 - (at + 12) ≡ 2 = omega arith in
@@ -23,7 +23,7 @@ length_part line at p is =
     ∙ ap (λ (l : List ℕ). first_bad length_cells 24 (take 2 l)) (sym (drop-drop 12 at line))
 
 -- what stands behind 27
-pub head-part : (f : List ℕ) → length f ≤ 1024 → (p : Place) → p ≡ first_bad header.before 2 (looked (take (length f - 1) (drop 1 f))) → p ≡ head_bad header f
+pub head-part : (f : List ℕ) → length f ≤ 1024 → (p : Option ℕ) → p ≡ first_bad header.before 2 (looked (take (length f - 1) (drop 1 f))) → p ≡ head_bad header f
 head-part f few p is =
     let rest : take (length f - 1) (drop 1 f) ≡ drop 1 f = take_all (length f - 1) (drop 1 f) (rw length-drop (omega arith)) in
     is

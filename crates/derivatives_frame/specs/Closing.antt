@@ -1,8 +1,8 @@
 -- A frame closed around a body that stands at its place in a buffer.
-use Rattle.std.specs.Prelude.{ℕ, ◌^◌, Bool, ◌&&◌, List, [], ◌∷◌, leb, ltb}
-use Rattle.answers.specs.declared.Written.{Written}
+use Rattle.std.specs.Prelude.{ℕ, ◌^◌, Bool, ◌&&◌, List, [], ◌∷◌, leb, ltb, Result}
 use Rattle.frame.specs.Writing as common
 use Rattle.derivatives_frame.specs.Outline.{header}
+use Rattle.answers.specs.declared.WriteError.{WriteError}
 
 -- the header's numbers
 abbrev pub head_numbers : ℕ → ℕ → ℕ → ℕ → ℕ → List ℕ
@@ -13,7 +13,7 @@ abbrev pub closable : ℕ → ℕ → ℕ → ℕ → Bool
 closable sent seq version n = ltb sent (10 ^ 8) && (ltb seq (10 ^ 8) && (ltb version 100 && (leb 17 n && leb n 1024)))
 
 -- what closing the frame of n bytes around its body answers, and the buffer afterwards
-abbrev pub close_answer : ℕ → ℕ → ℕ → ℕ → List ℕ → Written
+abbrev pub close_answer : ℕ → ℕ → ℕ → ℕ → List ℕ → Result ℕ WriteError
 close_answer sent seq version n buf = common.close_answer (closable sent seq version n) n buf
 
 abbrev pub closed_over : ℕ → ℕ → ℕ → ℕ → ℕ → ℕ → List ℕ → List ℕ

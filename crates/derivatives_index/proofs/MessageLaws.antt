@@ -1,4 +1,5 @@
 -- A message's frame written: its body put at its place, then closed. Over any kind's messages.
+use Rattle.std.specs.Prelude.{Err, Result}
 use Prim.Native.Nat.{ℕ, ◌+◌, ◌^◌, ◌≤◌, ◌<◌}
 use mathlib.Core.Path.{◌≡◌, sym, ap, ap₂, ◌∙◌}
 use mathlib.Core.Bool.{true}
@@ -9,8 +10,6 @@ use lib.Dec.{ltb}
 use borrow.Author.Tests.{le-leb}
 use Rattle.digits.proofs.Bools.{and_left, and_right, and_both}
 use Rattle.layout.specs.Cells.{size, fits, encode}
-use Rattle.answers.specs.declared.Written.{Written}
-use Rattle.answers.specs.declared.Written.TheVariants.{NoRoom}
 use Rattle.frame.specs.Header.{around}
 use Rattle.frame.specs.Writing as frame
 use Rattle.frame.specs.Writing.{write_answer, written_over}
@@ -19,6 +18,8 @@ use Rattle.frame.proofs.CodecLaws.{legal-front, legal-least, legal-most}
 use Rattle.frame.proofs.MessageLaws as common
 use Rattle.derivatives_frame.specs.Outline.{header}
 use Rattle.derivatives_frame.specs.Closing.{head_numbers, closable, close_answer, closed_over}
+use Rattle.answers.specs.declared.WriteError.{WriteError}
+use Rattle.answers.specs.declared.WriteError.TheVariants.{NoRoom}
 
 -- ---- a message of any kind, by the numbers of its header
 module _ {M : Type 0} (C : Codec header M) (Shaped : M → Type 0) (law : Lawful C Shaped) (m : M) (s : Shaped m) (l : legal C m ≡ true) where
@@ -27,7 +28,7 @@ module _ {M : Type 0} (C : Codec header M) (Shaped : M → Type 0) (law : Lawful
 
   -- the buffer is too short
   pub message-short : (buf : List ℕ) → length buf < whole
-      → (NoRoom ≡ write_answer (legal C m) (frame_of C m) buf) × (buf ≡ written_over (legal C m) (frame_of C m) buf)
+      → (Err NoRoom ≡ write_answer (legal C m) (frame_of C m) buf) × (buf ≡ written_over (legal C m) (frame_of C m) buf)
   message-short = common.message-short C Shaped law m s l (legal C m) l
 
   module _ (market kind sent seq version : ℕ) (before : C.before m ≡ head_numbers market kind sent seq version) (behind : C.behind m ≡ []) where
@@ -42,7 +43,7 @@ module _ {M : Type 0} (C : Codec header M) (Shaped : M → Type 0) (law : Lawful
         (and_both (and_left (ltb version (10 ^ 2)) _ r) (and_both (le-leb 17 whole (legal-least C m l)) (le-leb whole 1024 (legal-most C m l)))))
 
     -- its body was put at its place, then closing answered and left u
-    pub message-closed : (buf t u : List ℕ) (answer : Written) → whole ≤ length buf → t ≡ sets buf 14 (encode (C.cells m) (C.values m))
+    pub message-closed : (buf t u : List ℕ) (answer : Result ℕ WriteError) → whole ≤ length buf → t ≡ sets buf 14 (encode (C.cells m) (C.values m))
         → answer ≡ close_answer sent seq version whole t → u ≡ closed_over market kind sent seq version whole t
         → (answer ≡ write_answer (legal C m) (frame_of C m) buf) × (u ≡ written_over (legal C m) (frame_of C m) buf)
     message-closed buf t u answer h so p q =

@@ -1,4 +1,5 @@
 -- Reading a body: what its bytes hold, which check answers, and the reading at each return.
+use Rattle.std.specs.Prelude.{None, Option}
 use Prim.Native.Nat.{ℕ, ◌+◌, ◌-◌, ◌^◌, ◌≤◌, ◌<◌}
 use mathlib.Core.Path.{◌≡◌, refl, sym, ap, ap₂, ◌∙◌}
 use mathlib.Core.Bool.{Bool, true, false, cond, ◌&&◌, ◌||◌}
@@ -10,8 +11,6 @@ use lib.Dec.{eqb, ltb}
 use borrow.Author.Tests.{eqb-true, ne_eqb, lt-leb, eq-eqb}
 use Rattle.digits.specs.Packed.{value}
 use Rattle.digits.specs.Halves.{looked}
-use Rattle.digits.specs.declared.halves.Place.{Place}
-use Rattle.digits.specs.declared.halves.Place.TheVariants.{None}
 use Rattle.digits.proofs.Bools.{and_both}
 use Rattle.digits.proofs.Places.{inside}
 use Rattle.words.specs.Blocks.{block_at, block_of, no_block}
@@ -77,7 +76,7 @@ long-contract b l =
     ∙ sym (ap (λ (n : ℕ). take (n - 9) b ++ replicate (room - (n - 9)) 0) l)
 
 -- the first bad digit is looked for in the whole body
-pub whole-looked : (b : List ℕ) (n : ℕ) (r : Place) → length b ≡ n → n ≤ 65535 → r ≡ first_bad (index_cells (n - beside)) 28 (looked b) → r ≡ first_bad (cells_of b) 28 b
+pub whole-looked : (b : List ℕ) (n : ℕ) (r : Option ℕ) → length b ≡ n → n ≤ 65535 → r ≡ first_bad (index_cells (n - beside)) 28 (looked b) → r ≡ first_bad (cells_of b) 28 b
 whole-looked b n r l h e =
     e ∙ ap₂ (λ (k : ℕ) (x : List ℕ). first_bad (index_cells (k - beside)) 28 x) (sym l) (take_all 65535 b (omega arith))
 

@@ -1,13 +1,13 @@
 -- Writing an index value: what each test tells of its legality, and the bytes of its body.
 use Prim.Native.Nat.{ℕ, ◌+◌, ◌-◌, ◌/◌, ◌^◌, ◌≤◌, ◌<◌}
 use mathlib.Core.Path.{◌≡◌, refl, sym, ap, ◌∙◌}
-use mathlib.Core.Bool.{Bool, true, false, cond, ◌&&◌, ◌||◌}
+use mathlib.Core.Bool.{Bool, true, false, cond, ◌&&◌}
 use mathlib.Core.List.{List, [], ◌∷◌, ◌++◌, append_assoc}
 use native.Mathlib.Omega.{arith}
 use lib.ListN.{length, take, drop, set, length-append, length-drop}
 use lib.Seq.{sets, take_all, length-take-le}
 use lib.Dec.{eqb, ltb}
-use borrow.Author.Tests.{eqb-true, eqb-false, eq-eqb, ne_eqb, lt-ltb, ltb-true, le-leb}
+use borrow.Author.Tests.{eq-eqb, lt-ltb, ltb-true, le-leb}
 use Rattle.digits.specs.Packed.{packed}
 use Rattle.digits.specs.Fields.{put_at}
 use Rattle.digits.proofs.Bools.{and_left, and_right, and_both, no_false}
@@ -25,17 +25,7 @@ use Rattle.derivatives_index.specs.Index.{known, version_of, free, index_cells, 
 use Rattle.derivatives_index.specs.declared.index.Index.{Index}
 use Rattle.derivatives_index.proofs.IndexLaws.{size-index, two-lengths, contract-of, time-of, status-of}
 
--- ---- a contract's length
-pub short-length : (n : ℕ) → n ≡ 3 → true ≡ body_length (n + beside)
-short-length n e = sym (ap (λ (t : Bool). t || eqb (n + beside) 17) (eq-eqb (n + beside) 12 (omega arith)))
-
-pub long-length : (n : ℕ) → (n ≡ 3 → ⊥) → eqb n 8 ≡ body_length (n + beside)
-long-length n e = sym (ap (λ (t : Bool). t || eqb (n + beside) 17) (ne_eqb (n + beside) 12 (λ q. e (omega arith))) ∙ go (eqb n 8) refl)
-  where
-    go : (t : Bool) → eqb n 8 ≡ t → eqb (n + beside) 17 ≡ t
-    go true q = eq-eqb (n + beside) 17 (omega (arith, eqb-true n 8 q))
-    go false q = ne_eqb (n + beside) 17 (λ r. eqb-false n 8 q (omega arith))
-
+-- ---- what the tests of a number tell
 -- a time of day with hundredths has eight digits
 pub day-small : (t : ℕ) → time_of_day 2 t ≡ true → t < 10 ^ 8
 day-small t h =
@@ -94,7 +84,7 @@ module _ (m : Index) where
     keeps-sent : time_of_day 2 m.sent ≡ true
     keeps-sent = and_left _ _ keeps-times
 
-    keeps-time : time_of_day 2 m.time ≡ true
+    pub keeps-time : time_of_day 2 m.time ≡ true
     keeps-time = and_right (time_of_day 2 m.sent) _ keeps-times
 
     keeps-last : (code_right c && ltb m.status (2 ^ free m.kind)) ≡ true
@@ -152,7 +142,7 @@ module _ (m : Index) where
         ap (λ (n : ℕ). fits (index_cells n) (index_values m)) (sym (c-long h))
         ∙ fits-raws c (digits 8 ∷ digits 8 ∷ raw ∷ []) (m.time ∷ m.value.0 ∷ m.status ∷ [])
 
-    keeps-value : legal index_codec m ≡ true → m.value.0 < 10 ^ 8
+    pub keeps-value : legal index_codec m ≡ true → m.value.0 < 10 ^ 8
     keeps-value l =
         ltb-true m.value.0 (10 ^ 8)
         (and_left _ _ (and_right (ltb m.time (10 ^ 8)) _ (sym (fits_told (keeps-room l)) ∙ legal-fits index_codec m l)))

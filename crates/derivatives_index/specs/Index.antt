@@ -1,7 +1,5 @@
 -- The derivatives exchange's index values, I060 and I064: a contract of 3 or 8 bytes, a time, a value in thousandths, a status.
-use Rattle.std.specs.Prelude.{ℕ, ◌+◌, ◌-◌, ◌*◌, ◌^◌, ◌≡◌, Bool, cond, ◌&&◌, ◌||◌, List, [], ◌∷◌, ◌++◌, length, get_or, take, drop, replicate, eqb, ltb}
-use Rattle.digits.specs.declared.halves.Place.{Place}
-use Rattle.digits.specs.declared.halves.Place.TheVariants.{None}
+use Rattle.std.specs.Prelude.{ℕ, ◌+◌, ◌-◌, ◌*◌, ◌^◌, ◌≡◌, Bool, cond, ◌&&◌, ◌||◌, List, [], ◌∷◌, ◌++◌, length, get_or, take, drop, replicate, eqb, ltb, None, Option}
 use Rattle.layout.specs.Cells.{Cell, raw, digits, good_cells, decode}
 use Rattle.layout.specs.Places.{first_bad}
 use Rattle.layout.specs.Checks.{Check, must, first_fail}
@@ -147,7 +145,7 @@ no_index = record { market = 0; kind = 0; sent = 0; seq = 0; contract = replicat
 
 -- ---- a body read behind its header
 -- beside 11 the place of the first bad digit, in halves from the frame's first byte
-abbrev pub body_place : List ℕ → ℕ → Place
+abbrev pub body_place : List ℕ → ℕ → Option ℕ
 body_place b n = cond (eqb n 11) (first_bad (cells_of b) (2 * start header) b) None
 
 -- the answer of the first check that fails, or acceptance with the message

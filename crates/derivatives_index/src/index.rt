@@ -21,6 +21,7 @@ pub struct Index {
 }
 
 // What reading a body finds; the index value is the empty one where the answer is a refusal.
+// It is no `Result`: beside a frame of another kind, which is accepted, stands the empty one too.
 #[derive(Clone, Copy)]
 pub struct IndexReading {
     pub answer: Answer,

@@ -1,6 +1,5 @@
 // Index values read out of a body.
-ghost use Rattle.std.specs.Prelude.{◌≡◌, ◌+◌, ◌-◌, ◌^◌, ◌<◌, true, length, take, replicate, ◌++◌};
-ghost use Rattle.digits.specs.declared.halves.Place.TheVariants.{None};
+ghost use Rattle.std.specs.Prelude.{◌≡◌, ◌+◌, ◌-◌, ◌^◌, ◌<◌, true, length, take, replicate, ◌++◌, None};
 ghost use Rattle.layout.specs.Places.{first_bad};
 ghost use Rattle.codes_times.specs.Times.{code_right};
 ghost use Rattle.derivatives_index.specs.Index.{index_reading, no_index, cells_of, body_length, room};
@@ -11,7 +10,6 @@ use amounts::Thousandths;
 use answers::{Answer, Frame};
 use codes_times::code_right;
 use derivatives_frame::head::Head;
-use digits::halves::Place;
 use layout::places::first_bad_from;
 use words::blocks::eight_at;
 
@@ -23,13 +21,13 @@ fn refused(number: u8, n: usize) -> IndexReading
     let index = empty();
     let length = 17 + n;
     IndexReading {
-        answer: Answer::Refused(number, length, Place::None),
+        answer: Answer::Refused(number, length, None),
         index,
     }
 }
 
 // Where the first bad digit of a body is, in halves from the frame's first byte.
-fn place_in(body: &[u8]) -> Place
+fn place_in(body: &[u8]) -> Option<u32>
     requires { body_length (length body.now) ≡ true }
     ensures { result ≡ first_bad (cells_of body.now) 28 body.now }
 {

@@ -2,7 +2,7 @@
 ghost use Rattle.std.specs.Prelude.{◌≡◌, true, ◌+◌, ◌≤◌, length, eqb};
 ghost use Rattle.std.proofs.lemmas.List.Edits.{sets};
 ghost use Rattle.layout.specs.Cells.{encode};
-ghost use Rattle.codes_times.specs.Times.{every};
+ghost use Rattle.std.specs.List.{list_all};
 ghost use Rattle.frame.specs.Codec.{legal, frame_of};
 ghost use Rattle.frame.specs.Writing.{write_answer, written_over};
 ghost use Rattle.derivatives_index.specs.Index.{index_cells, index_values, index_codec};
@@ -10,7 +10,7 @@ ghost use Rattle.derivatives_index.specs.Index.{index_cells, index_values, index
 use crate::index::Index;
 use crate::rules::{is_contract, is_known, is_status, is_time, version_of};
 use amounts::Thousandths;
-use answers::Written;
+use answers::WriteError;
 use codes_times::code_right;
 use derivatives_frame::closing::close;
 use digits::fields::write as write_digits;
@@ -21,16 +21,9 @@ const MOST_SEQ: u32 = 99_999_999;
 
 // Whether bytes are all zero.
 fn is_clear(s: &[u8]) -> bool
-    ensures { result ≡ every (eqb 0) s.now }
+    ensures { result ≡ list_all (eqb 0) s.now }
 {
-    let mut i = 0;
-    while i < s.len() {
-        if s[i] != 0 {
-            return false;
-        }
-        i += 1;
-    }
-    true
+    s.iter().all(|b| *b == 0)
 }
 
 // Whether an index value breaks no rule.
@@ -76,21 +69,21 @@ fn put_body(m: Index, buf: &mut [u8])
     let value = m.value;
     let n = m.length;
     put_bytes(&contract[..n], buf, 14);
-    write_digits(m.time as u64, 4, buf, 14 + n);
-    write_digits(value.0 as u64, 4, buf, 18 + n);
+    write_digits(m.time as u64, 4, buf, 14 + n).unwrap();
+    write_digits(value.0 as u64, 4, buf, 18 + n).unwrap();
     buf[22 + n] = m.status;
 }
 
 // Writes an index value as a frame at the start of the buffer.
-pub fn write(m: Index, buf: &mut [u8]) -> Written
+pub fn write(m: Index, buf: &mut [u8]) -> Result<usize, WriteError>
     ensures { (result ≡ write_answer (legal index_codec m) (frame_of index_codec m) buf.old) × (buf.new ≡ written_over (legal index_codec m) (frame_of index_codec m) buf.old) }
 {
     if !is_legal(m) {
-        return Written::Illegal;
+        return Err(WriteError::Illegal);
     }
     let n = m.length;
     if buf.len() < 26 + n {
-        return Written::NoRoom;
+        return Err(WriteError::NoRoom);
     }
     put_body(m, buf);
     let version = version_of(m.kind);

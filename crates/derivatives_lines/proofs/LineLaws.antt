@@ -1,8 +1,8 @@
 -- The reading of the derivatives exchange's frames is sound, with and without the index values, so the laws of a walk hold of its lines.
+use Rattle.std.specs.Prelude.{None}
 use Prim.Native.Nat.{ℕ}
 use mathlib.Core.Path.{◌≡◌}
 use mathlib.Core.List.{List, ◌∷◌, ◌++◌}
-use Rattle.digits.specs.declared.halves.Place.TheVariants.{None}
 use Rattle.answers.specs.Answers.{answer_number}
 use Rattle.answers.specs.declared.Answer.TheVariants.{NoFrame}
 use Rattle.exchange.proofs.SoundLaws as common

@@ -1,5 +1,5 @@
 -- The derivatives exchange's line: its reading, with and without the index values, and what the calls say of a walk over it.
-use Rattle.std.specs.Prelude.{ℕ, Bool, List}
+use Rattle.std.specs.Prelude.{ℕ, Bool, List, Option}
 use Rattle.answers.specs.Answers.{answer_number, answer_length}
 use Rattle.answers.specs.declared.Answer.{Answer}
 use Rattle.derivatives_frame.specs.Outline.{header}
@@ -8,7 +8,7 @@ use Rattle.derivatives_reading.specs.Reading.{answer_of, index_in}
 use Rattle.walk.specs.Walk.{Reading}
 use Rattle.walk.specs.Answers.{answering}
 use Rattle.walk.specs.Lines as lines
-use Rattle.walk.specs.declared.moves.Step.{Step}
+use Rattle.walk.specs.declared.rows.Row.{Row}
 
 -- the reading of the frames, by their answers
 abbrev pub answers : Reading Answer
@@ -32,5 +32,5 @@ sayings = record {
 }
 
 -- the move at a place of a line, or that the walk stops there
-abbrev pub move_at : Bool → ℕ → List ℕ → Step
+abbrev pub move_at : Bool → ℕ → List ℕ → Option Row
 move_at closed at line = lines.move_at answer_of closed at line

@@ -1,4 +1,5 @@
 -- A reading by its steps: the outline, and the body behind its header.
+use Rattle.std.specs.Prelude.{Err, Ok}
 use Prim.Native.Nat.{ℕ, ◌+◌, ◌-◌, ◌≤◌}
 use mathlib.Core.Path.{◌≡◌, refl, sym, ap, ap₂, ◌∙◌}
 use mathlib.Core.Bool.{Bool, true, false, cond, ◌&&◌, and-true}
@@ -19,7 +20,6 @@ use Rattle.exchange.specs.Reading.{Behind, answer_by}
 use Rattle.exchange.proofs.ReadingLaws.{checks-outlined, checks-not, answer-not, answer-outlined}
 use Rattle.derivatives_frame.specs.Outline.{header, market, kind, sent, sequence, version, head_of, outline_of}
 use Rattle.derivatives_frame.specs.declared.head.Head.{Head}
-use Rattle.derivatives_frame.specs.declared.head.Outline.TheVariants.{Whole, Not}
 use Rattle.derivatives_frame.proofs.HeaderHolds.{law}
 use Rattle.derivatives_frame.proofs.PartLaws.{whole-outlined, not-outlined}
 use Rattle.derivatives_index.specs.Index.{number_of, cells_of, body_length, values_of, index_checks, index_of, index_codec, no_index, body_place, index_reading}
@@ -53,7 +53,7 @@ one_of_two k = go (eqb k 53)
     go false = refl
 
 -- ---- no whole outline
-module _ (t : List ℕ) (a : Answer) (e : outline_of t ≡ Not a) where
+module _ (t : List ℕ) (a : Answer) (e : outline_of t ≡ Err a) where
   pub read-not : record { answer = a; index = no_index } ≡ index_at t
   unfolding answer_of index_in
   read-not =
@@ -65,7 +65,7 @@ module _ (t : List ℕ) (a : Answer) (e : outline_of t ≡ Not a) where
       ap₂ (λ (x : Answer) (i : Index). record { answer = x; index = i }) same none
 
 -- ---- a whole outline at a place on a line, and its body as the part `&line[s..e]`
-module _ (line : List ℕ) (at : ℕ) (h : Head) (e : outline_of (drop at line) ≡ Whole h) where
+module _ (line : List ℕ) (at : ℕ) (h : Head) (e : outline_of (drop at line) ≡ Ok h) where
   abbrev t : List ℕ
   t = drop at line
 

@@ -1,6 +1,5 @@
 -- Index values byte for byte: what frames mean, and the edges of each check.
-use Rattle.std.specs.Prelude.{ℕ, ◌≡◌, List, [], ◌∷◌, ◌++◌, take}
-use Rattle.digits.specs.declared.halves.Place.TheVariants.{None, Half}
+use Rattle.std.specs.Prelude.{ℕ, ◌≡◌, List, [], ◌∷◌, ◌++◌, take, None, Some}
 use Rattle.answers.specs.declared.Answer.TheVariants.{Accepted, NoFrame, Refused}
 use Rattle.amounts.specs.Amounts.{as_thousandths}
 use Rattle.frame.specs.Writing.{frame_around}
@@ -41,16 +40,16 @@ pub record Edges : Type 0 where
   pub thirteen : answer_of (take 13 short) ≡ NoFrame 2 None
   pub one_less : answer_of (take 28 short) ≡ NoFrame 2 None
   -- 3: a bad digit, at its place, and a whole frame above 1,024 bytes; a body of 0 bytes answers 9
-  pub length-digit : answer_of (take 12 short ++ (0x00 ∷ 0x1A ∷ [])) ≡ NoFrame 3 (Half 27)
+  pub length-digit : answer_of (take 12 short ++ (0x00 ∷ 0x1A ∷ [])) ≡ NoFrame 3 (Some 27)
   pub longest : answer_of (take 12 short ++ (0x10 ∷ 0x07 ∷ [])) ≡ NoFrame 2 None
   pub too_long : answer_of (take 12 short ++ (0x10 ∷ 0x08 ∷ [])) ≡ NoFrame 3 None
   pub no_body : answer_of (sent_at 53 2 0 []) ≡ Refused 9 17 None
   -- 6 before 7, 7 before 8, 8 before 9
-  pub head-digit : answer_of (0x1B ∷ 0x00 ∷ 0x00 ∷ 0x13 ∷ 0x30 ∷ 0x00 ∷ 0x2F ∷ 0x00 ∷ 0x00 ∷ 0x00 ∷ 0x01 ∷ 0x02 ∷ 0x00 ∷ 0x00 ∷ 0x0F ∷ 0x0D ∷ 0x0A ∷ []) ≡ Refused 6 17 (Half 13)
+  pub head-digit : answer_of (0x1B ∷ 0x00 ∷ 0x00 ∷ 0x13 ∷ 0x30 ∷ 0x00 ∷ 0x2F ∷ 0x00 ∷ 0x00 ∷ 0x00 ∷ 0x01 ∷ 0x02 ∷ 0x00 ∷ 0x00 ∷ 0x0F ∷ 0x0D ∷ 0x0A ∷ []) ≡ Refused 6 17 (Some 13)
   pub other-kind : answer_of (sent_at 54 9 0 []) ≡ Refused 7 17 None
   pub other-version : answer_of (sent_at 56 2 0 []) ≡ Refused 8 17 None
   -- 11 before 12, and the lowest of two bad halves; either time; a status bit of each kind
-  pub body-digit : answer_of (sent_at 53 2 99000000 (body_with (0x00 ∷ 0xA0 ∷ 0x00 ∷ 0xF0 ∷ []) 0xFF)) ≡ Refused 11 29 (Half 36)
+  pub body-digit : answer_of (sent_at 53 2 99000000 (body_with (0x00 ∷ 0xA0 ∷ 0x00 ∷ 0xF0 ∷ []) 0xFF)) ≡ Refused 11 29 (Some 36)
   pub sent-late : answer_of (sent_at 53 2 24000000 (body_with (0x00 ∷ 0x00 ∷ 0x00 ∷ 0x00 ∷ []) 0xFF)) ≡ Refused 12 29 None
   pub nines : answer_of (sent_at 53 2 0 (body_with (0x99 ∷ 0x99 ∷ 0x99 ∷ 0x99 ∷ []) 0xFF)) ≡ Refused 12 29 None
   pub bit-one : answer_of (sent_at 53 2 0 (body_with (0x00 ∷ 0x00 ∷ 0x00 ∷ 0x00 ∷ []) 2)) ≡ Refused 13 29 None

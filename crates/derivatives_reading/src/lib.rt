@@ -5,7 +5,6 @@ ghost use Rattle.std.specs.Prelude.{◌≡◌, drop};
 ghost use Rattle.derivatives_reading.specs.Reading.{answer_of, index_at};
 
 use answers::Answer;
-use derivatives_frame::head::Outline;
 use derivatives_frame::outline::outline;
 use derivatives_index::index::{IndexReading, empty};
 use derivatives_index::reading::read as index_in;
@@ -15,11 +14,11 @@ pub fn read_index(line: &[u8], at: usize) -> IndexReading
     ensures { result ≡ index_at (drop at line.now) }
 {
     match outline(line, at) {
-        Outline::Not(answer) => {
+        Err(answer) => {
             let index = empty();
             IndexReading { answer, index }
         }
-        Outline::Whole(head) => {
+        Ok(head) => {
             let start = at + 14;
             let end = at + head.length - 3;
             index_in(&line[start..end], head)

@@ -11,6 +11,5 @@ pub mod TableLaws
 pub mod WriteSteps
 pub mod PutLaws
 pub mod FieldLaws
-pub mod HalfSteps
 pub mod HalfLaws
 pub mod Determined

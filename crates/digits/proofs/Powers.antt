@@ -1,14 +1,8 @@
 -- Powers of a hundred: a field of n bytes holds the numbers below 100 ^ n.
-use Prim.Native.Nat.{ℕ, ◌+◌, ◌*◌, ◌^◌, ◌≤◌}
-use mathlib.Core.Path.{◌≡◌}
-use native.Mathlib.Nat.{pow-suc, pow-le-pow_right}
-use native.Mathlib.Numerals.{add-one}
+use Prim.Native.Nat.{ℕ, ◌^◌, ◌≤◌}
+use native.Mathlib.Nat.{pow-le-pow_right}
 use native.Mathlib.Omega.{arith}
 use lib.Dec.{lit<}
-
--- one more byte is a hundred times as many numbers
-pub pow-next : (k : ℕ) → 100 ^ (k + 1) ≡ 100 ^ k * 100
-pow-next k = rw add-one (pow-suc 100 k)
 
 -- eight bytes or fewer: two digits more still fit a u64
 pub pow-eight : (k : ℕ) → k ≤ 8 → 100 ^ k ≤ 10000000000000000

@@ -6,7 +6,7 @@ use native.Mathlib.Omega.{arith}
 use native.Mathlib.Nat.{add-zero, suc-add, mul_comm, div-add-mod', div-div-eq-div-mul}
 use lib.Pow.{pow-add}
 use lib.Bits.{bit_and, and_block, and_mask}
-use lib.ListN.{length, set, length-set}
+use lib.ListN.{length, set}
 use lib.Seq.{sets}
 use Rattle.digits.specs.Packed.{byte_of, packed}
 use Rattle.digits.proofs.PackedLaws.{length-packed}
@@ -42,79 +42,12 @@ two_bytes a h = with-tens (a / 100) (a % 100) (omega arith) (omega arith)
     with-tens : (p q : ℕ) → p < 100 → q < 100 → p + q * 65536 + bit_and ((p + q * 65536) * 103 / 1024) 983055 * 6 ≡ byte_of p + byte_of q * 65536
     with-tens p q hp hq = rw (tens p q hp hq) (omega arith)
 
--- each of two bytes sixteen bits apart
-byte-first : (x p q : ℕ) → p < 100 → x ≡ byte_of p + byte_of q * 65536 → x % 256 ≡ byte_of p
-byte-first x p q hp e = omega arith
-
-byte-second : (x p q : ℕ) → p < 100 → x ≡ byte_of p + byte_of q * 65536 → x / 65536 ≡ byte_of q
-byte-second x p q hp e = omega arith
-
-pub byte_fits : (x p q : ℕ) → p < 100 → q < 100 → x ≡ byte_of p + byte_of q * 65536 → x / 65536 < 256
-byte_fits x p q hp hq e = omega arith
-
--- the second, third and fourth of four stores are inside
-pub second-in : (e : List ℕ) (at w : ℕ) → at + 4 ≤ length e → at + 1 < length (set e at w)
-second-in e at w h = rw length-set (omega arith)
-
-pub third-in : (e : List ℕ) (at w x : ℕ) → at + 4 ≤ length e → at + 2 < length (set (set e at w) (at + 1) x)
-third-in e at w x h = rw (length-set, length-set) (omega arith)
-
-pub fourth-in : (e : List ℕ) (at w x y : ℕ) → at + 4 ≤ length e → at + 3 < length (set (set (set e at w) (at + 1) x) (at + 2) y)
-fourth-in e at w x y h = rw (length-set, length-set, length-set) (omega arith)
-
--- four stores
-four-sets : (e : List ℕ) (at w x y z : ℕ) → set (set (set (set e at w) (at + 1) x) (at + 2) y) (at + 3) z ≡ sets e at (w ∷ x ∷ y ∷ z ∷ [])
-four-sets e at w x y z =
-    let e₁ : at + 1 ≡ suc at = omega arith in
-    let e₂ : at + 2 ≡ suc (suc at) = omega arith in
-    let e₃ : at + 3 ≡ suc (suc (suc at)) = omega arith in
-    ap (λ (i : ℕ). set (set (set (set e at w) i x) (at + 2) y) (at + 3) z) e₁
-    ∙ ap (λ (i : ℕ). set (set (set (set e at w) (suc at) x) i y) (at + 3) z) e₂
-    ∙ ap (λ (i : ℕ). set (set (set (set e at w) (suc at) x) (suc (suc at)) y) i z) e₃
-
 -- four bytes, one by one
 four_are : {w x y z p q r s : ℕ} → w ≡ p → x ≡ q → y ≡ r → z ≡ s → ◌≡◌ {A = List ℕ} (w ∷ x ∷ y ∷ z ∷ []) (p ∷ q ∷ r ∷ s ∷ [])
 four_are hw hx hy hz =
     ap₂ (λ (d : ℕ) (ds : List ℕ). d ∷ ds) hw
     (ap₂ (λ (d : ℕ) (ds : List ℕ). d ∷ ds) hx
     (ap₂ (λ (d : ℕ) (ds : List ℕ). d ∷ ds) hy (ap (λ (d : ℕ). d ∷ []) hz)))
-
--- eight digits by twos, each below 100, as they stand in four bytes
-module _ (v : ℕ) where
-  pub first-lt : v < 100000000 → v / 10000 / 100 < 100
-  first-lt h = omega arith
-
-  pub second_lt : v / 10000 % 100 < 100
-  second_lt = omega arith
-
-  pub third-lt : v % 10000 / 100 < 100
-  third-lt = omega arith
-
-  pub fourth-lt : v % 10000 % 100 < 100
-  fourth-lt = omega arith
-
-  first_two : v < 100000000 → v / 10000 / 100 ≡ v / 100 ^ 3 % 100
-  first_two h = omega arith
-
-  third-two : v % 10000 / 100 ≡ v / 100 ^ 1 % 100
-  third-two = omega arith
-
-  fourth-two : v % 10000 % 100 ≡ v / 100 ^ 0 % 100
-  fourth-two = omega arith
-
--- eight digits stored as four bytes
-pub four-put : (v a b at : ℕ) (e : List ℕ) → v < 100000000
-    → a ≡ byte_of (v / 10000 / 100) + byte_of (v / 10000 % 100) * 65536
-    → b ≡ byte_of (v % 10000 / 100) + byte_of (v % 10000 % 100) * 65536
-    → set (set (set (set e at (a % 256)) (at + 1) (a / 65536)) (at + 2) (b % 256)) (at + 3) (b / 65536) ≡ sets e at (packed 4 v)
-four-put v a b at e h ea eb =
-    four-sets e at (a % 256) (a / 65536) (b % 256) (b / 65536)
-    ∙ ap (sets e at)
-    (four_are
-    (byte-first a (v / 10000 / 100) (v / 10000 % 100) (first-lt v h) ea ∙ ap byte_of (first_two v h))
-    (byte-second a (v / 10000 / 100) (v / 10000 % 100) (first-lt v h) ea)
-    (byte-first b (v % 10000 / 100) (v % 10000 % 100) (third-lt v) eb ∙ ap byte_of (third-two v))
-    (byte-second b (v % 10000 / 100) (v % 10000 % 100) (third-lt v) eb ∙ ap byte_of (fourth-two v)))
 
 -- the last four bytes of a field are those of its last eight digits
 packed-last : (m v : ℕ) → packed (m + 4) v ≡ packed m (v / 100000000) ++ packed 4 (v % 100000000)

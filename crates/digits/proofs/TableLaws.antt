@@ -1,4 +1,5 @@
 -- The table holds the digit rule for every byte, and a field read by it is the field read by the rule.
+use Rattle.std.specs.Prelude.{Err, Result}
 use Prim.Native.Nat.{ℕ, zero, suc, ◌+◌, ◌*◌, ◌/◌, ◌%◌, ◌≤◌, ◌<◌}
 use mathlib.Core.Bool.{Bool, true, false, cond}
 use mathlib.Core.List.{List, [], ◌∷◌}
@@ -12,21 +13,21 @@ use Rattle.digits.specs.Packed.{good_byte, two, byte_of}
 use Rattle.digits.specs.Table.{mark, entry_of, entries_from, digit_table}
 use Rattle.digits.specs.Fields.{within, field_from, field_at}
 use Rattle.digits.specs.Lent.{entry_in, field_from_by, field_by}
-use Rattle.digits.specs.declared.fields.Field.{Field}
 use Rattle.digits.proofs.PackedLaws.{good-byte_of, two-byte_of, two-lt, byte_of-two}
 use Rattle.digits.proofs.ReadSteps.{bad-high, bad-low, good-next, marked-high, marked-low, entry_next}
+use Rattle.digits.specs.declared.fields.FieldError.{FieldError}
 
 -- the entry at a place is that of its byte
-get_d-entries : (b n k : ℕ) → k < n → get_or (entries_from b n) k 0 ≡ entry_of (b + k)
-get_d-entries b zero k h = absurd (not-suc-le-zero h)
-get_d-entries b (suc n) zero h = let e : b ≡ b + 0 = omega arith in ap entry_of e
-get_d-entries b (suc n) (suc k) h =
+get_or-entries : (b n k : ℕ) → k < n → get_or (entries_from b n) k 0 ≡ entry_of (b + k)
+get_or-entries b zero k h = absurd (not-suc-le-zero h)
+get_or-entries b (suc n) zero h = let e : b ≡ b + 0 = omega arith in ap entry_of e
+get_or-entries b (suc n) (suc k) h =
     let e : suc b + k ≡ b + suc k = omega arith in
-    get_d-entries (suc b) n k (le_of_suc-le-suc h) ∙ ap entry_of e
+    get_or-entries (suc b) n k (le_of_suc-le-suc h) ∙ ap entry_of e
 
 -- at the place of every byte the table has what the digit rule says of the byte
 pub table-entry : (b : ℕ) → b < 256 → get_or digit_table b 0 ≡ entry_of b
-table-entry b h = get_d-entries 0 256 b h ∙ ap entry_of (zero-add b)
+table-entry b h = get_or-entries 0 256 b h ∙ ap entry_of (zero-add b)
 
 -- the same of any number: one that is no byte has the mark, by the rule too
 pub entry_in-table : (b : ℕ) → entry_in digit_table b ≡ entry_of b
@@ -81,8 +82,8 @@ field_from-entries t h v p (b ∷ bs) = go (leb (b / 16) 9) (leb (b % 16) 9) ref
 
 -- a field read by the table is the field read by the rule
 pub field_by-table : (s : List ℕ) (at n : ℕ) → field_by digit_table s at n ≡ field_at s at n
-field_by-table s at n = ap (λ (f : Field). cond (within s at n) f Field.Outside) (field_from-entries digit_table entry_in-table 0 0 (take n (drop at s)))
+field_by-table s at n = ap (λ (f : Result ℕ FieldError). cond (within s at n) f (Err FieldError.Outside)) (field_from-entries digit_table entry_in-table 0 0 (take n (drop at s)))
 
 -- the same of an answer by a lent table that is the one
-pub read-by-table : (r : Field) (t s : List ℕ) (at n : ℕ) → r ≡ field_by t s at n → t ≡ digit_table → r ≡ field_at s at n
+pub read-by-table : (r : Result ℕ FieldError) (t s : List ℕ) (at n : ℕ) → r ≡ field_by t s at n → t ≡ digit_table → r ≡ field_at s at n
 read-by-table r t s at n e h = e ∙ ap (λ (u : List ℕ). field_by u s at n) h ∙ field_by-table s at n

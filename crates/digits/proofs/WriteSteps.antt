@@ -1,16 +1,16 @@
 -- Writing a field from its last byte back: what the bytes from place k on hold, and what one byte more does.
+use Rattle.std.specs.Prelude.{Ok}
 use Prim.Native.Nat.{ℕ, suc, ◌+◌, ◌-◌, ◌/◌, ◌%◌, ◌^◌, ◌≤◌, ◌<◌}
 use mathlib.Core.List.{List, [], ◌∷◌}
-use mathlib.Core.Path.{◌≡◌, refl, ap, sym, ◌∙◌}
-use native.Mathlib.Nat.{pow-suc, div-div-eq-div-mul, div-one, sub_self}
+use mathlib.Core.Path.{◌≡◌, refl, ap, ◌∙◌}
+use native.Mathlib.Nat.{pow-suc, div-div-eq-div-mul}
 use native.Mathlib.Omega.{arith}
-use borrow.Author.Tests.{lt-ltb, le-ltb}
+use borrow.Author.Tests.{lt-ltb}
 use lib.ListN.{length, set}
-use lib.Seq.{sets, length-sets, set_comm}
+use lib.Seq.{sets, set_comm}
 use Rattle.digits.specs.Packed.{byte_of, packed}
 use Rattle.digits.specs.Fields.{put_answer, put_at}
-use Rattle.digits.specs.declared.fields.Put.{Put}
-use Rattle.digits.proofs.Within.{within-wide, within-past, within_all}
+use Rattle.digits.proofs.Within.{within_all}
 
 -- a store before a run of stores
 sets-back : (vs l : List ℕ) (i k a : ℕ) → k < i → set (sets l i vs) k a ≡ sets (set l k a) i vs
@@ -18,28 +18,6 @@ sets-back [] l i k a h = refl
 sets-back (b ∷ vs) l i k a h =
     sets-back vs (set l i b) (suc i) k a (omega arith)
     ∙ ap (λ (x : List ℕ). sets x (suc i) vs) (set_comm l i k b a (λ e. omega arith))
-
--- too wide: refused, and the bytes as they were
-pub write-wide : (v n : ℕ) (e : List ℕ) (at : ℕ) → 9 < n → (Put.Outside ≡ put_answer v n e at) × (e ≡ put_at v n e at)
-write-wide v n e at h = rw (within-wide e at n h) (refl, refl)
-
--- past the end: the same
-pub write-past : (v n : ℕ) (e : List ℕ) (at : ℕ) → n ≤ 9 → length e < at + n
-    → (Put.Outside ≡ put_answer v n e at) × (e ≡ put_at v n e at)
-write-past v n e at w h = rw (within-past e at n w h) (refl, refl)
-
--- too large a number: the same
-pub write-large : (v n : ℕ) (e : List ℕ) (at : ℕ) → n ≤ 9 → at + n ≤ length e → 100 ^ n ≤ v
-    → (Put.TooLarge ≡ put_answer v n e at) × (e ≡ put_at v n e at)
-write-large v n e at w h l = rw (within_all e at n w h, le-ltb v (100 ^ n) l) (refl, refl)
-
--- writing leaves the length
-pub write-length : (v m k : ℕ) (e e₀ : List ℕ) → e ≡ sets e₀ k (packed m v) → length e ≡ length e₀
-write-length v m k e e₀ done = rw done (length-sets e₀ k (packed m v))
-
--- where the loop begins
-pub write-starts : (v i : ℕ) (e : List ℕ) → (v ≡ v / 100 ^ (i - i)) × (e ≡ sets e i (packed (i - i) v))
-write-starts v i e = rw sub_self (sym (div-one v), refl)
 
 -- a turn: the digits from place k on are written, w is what is left of the number
 module _ (v w end k : ℕ) (e e₀ : List ℕ) (some : 0 < k) (inside : k ≤ end)
@@ -68,5 +46,5 @@ write-ends v n e₀ at k e q done =
 
 -- the bytes written: done
 pub write_done : (v n : ℕ) (e₀ : List ℕ) (at : ℕ) (e : List ℕ) → n ≤ 9 → at + n ≤ length e₀ → v < 100 ^ n
-    → e ≡ sets e₀ at (packed n v) → (Put.Done ≡ put_answer v n e₀ at) × (e ≡ put_at v n e₀ at)
+    → e ≡ sets e₀ at (packed n v) → (Ok tt ≡ put_answer v n e₀ at) × (e ≡ put_at v n e₀ at)
 write_done v n e₀ at e w h l done = rw (within_all e₀ at n w h, lt-ltb v (100 ^ n) l) (refl, done)

@@ -2,7 +2,7 @@
 ghost use Rattle.std.specs.Prelude.{◌≡◌};
 ghost use Rattle.digits.specs.Table.{entry_of, digit_table};
 
-// The mark of a byte with a bad half.
+// The mark of a byte with a bad half, and no `Option`: `trivsome_two_digits` and `trivsome_digit_table` hand the entries on.
 pub const BAD: u8 = 255;
 
 // The table. It is made anew at every call, so who reads many bytes makes it once and lends it.

@@ -1,4 +1,5 @@
 -- The numbers that a list of checks may answer, and the length and place of an answer that was named by them.
+use Rattle.std.specs.Prelude.{None, Option}
 use Prim.Native.Nat.{ℕ, ◌≤◌}
 use mathlib.Core.Path.{◌≡◌, refl, sym}
 use mathlib.Core.Bool.{Bool, true, false, cond}
@@ -7,8 +8,6 @@ use mathlib.Core.Logic.{◌⊎◌, inl, inr}
 use native.Mathlib.Omega.{arith}
 use lib.Dec.{eqb, leb}
 use borrow.Author.Tests.{eqb-true, eqb-false, leb-true}
-use Rattle.digits.specs.declared.halves.Place.{Place}
-use Rattle.digits.specs.declared.halves.Place.TheVariants.{None}
 use Rattle.digits.proofs.Bools.{and_left, and_right}
 use Rattle.layout.specs.Checks.{Check, must, first_fail}
 use Rattle.answers.specs.Answers.{named, answer_length, answer_place}
@@ -24,7 +23,7 @@ fails-at-least k (must n true ∷ checks) h = fails-at-least k checks (and_right
 fails-at-least k (must n false ∷ checks) h = inr (leb-true k n (and_left _ _ h))
 
 -- ---- an answer made of a number, a frame and a place
-module _ (n : ℕ) (f : Frame) (p : Place) where
+module _ (n : ℕ) (f : Frame) (p : Option ℕ) where
   -- beside a number that is none of 1 to 5 stands the frame's length
   pub length-named : (1 ≤ n → n ≤ 5 → ⊥) → answer_length (named n f p) ≡ f.length
   length-named h = go (eqb n 0) (leb n 5) refl refl

@@ -1,4 +1,5 @@
 -- The place beside an answer is the lowest bad half of what its number speaks of.
+use Rattle.std.specs.Prelude.{None, Option, Some}
 use Prim.Native.Nat.{ℕ, ◌+◌, ◌-◌, ◌*◌, ◌≤◌, ◌<◌}
 use mathlib.Core.Path.{◌≡◌, refl, sym, ap, ap₂, ◌∙◌, subst}
 use mathlib.Core.Bool.{Bool, true, false, cond, ◌&&◌, and-true}
@@ -10,8 +11,6 @@ use lib.Dec.{eqb}
 use borrow.Author.Tests.{eqb-true, eqb-false, ne_eqb, leb-true}
 use Rattle.digits.specs.Packed.{good_field}
 use Rattle.digits.specs.Halves.{bad_field, is_none, or_else, Lowest}
-use Rattle.digits.specs.declared.halves.Place.{Place}
-use Rattle.digits.specs.declared.halves.Place.TheVariants.{None, Half}
 use Rattle.digits.proofs.Bools.{and_left, no_false}
 use Rattle.digits.proofs.HalfLaws.{bad_field-none}
 use Rattle.layout.specs.Cells.{size}
@@ -30,9 +29,9 @@ use Rattle.exchange.proofs.ReadingLaws.{answer-number, checks-apart}
 use Rattle.exchange.proofs.SoundLaws.{outline-is}
 
 -- no place at all
-none_is : (p : Place) → is_none p ≡ true → p ≡ None
+none_is : (p : Option ℕ) → is_none p ≡ true → p ≡ None
 none_is None h = refl
-none_is (Half q) h = absurd (no_false h)
+none_is (Some q) h = absurd (no_false h)
 
 -- ---- the header of a frame whose length's digits are good
 module _ (H : Header) (f : List ℕ) (long : start H ≤ length f) (good : good_field 4 (length_bytes H f) ≡ true) where
@@ -51,7 +50,7 @@ module _ (H : Header) (f : List ℕ) (long : start H ≤ length f) (good : good_
       first_bad-append H.before (length_cells ++ H.after) 2 (drop 1 f)
       ∙ ap (or_else (first_bad H.before 2 (drop 1 f)))
       (ap (first_bad (length_cells ++ H.after) p) (drop-drop z 1 f)
-      ∙ ap (λ (x : Place). or_else x (first_bad H.after (p + 2 * 2) (drop 2 (drop (length_at H) f)))) bad
+      ∙ ap (λ (x : Option ℕ). or_else x (first_bad H.after (p + 2 * 2) (drop 2 (drop (length_at H) f)))) bad
       ∙ ap₂ (λ (k : ℕ) (l : List ℕ). first_bad H.after k l) far last)
 
   head-none : is_none (head_bad H f) ≡ head_good H f
@@ -136,7 +135,7 @@ module _ {H : Header} (E : Exchange H) (header-law : HeaderLaw H) (law : Behind 
   other_none three six eleven = place_at n refl ∙ rw (ne_eqb n 11 eleven, ne_eqb n 3 three, ne_eqb n 6 six)
 
   -- ---- within a frame
-  inside : (p : ℕ) → answer_place (answer_by E t) ≡ Half p → (2 ≤ p) × (p < 2 * H.most)
+  inside : (p : ℕ) → answer_place (answer_by E t) ≡ Some p → (2 ≤ p) × (p < 2 * H.most)
   inside p e = go (eqb n 3) (eqb n 6) (eqb n 11) refl refl refl
     where
       room : around H ≤ H.most

@@ -1,4 +1,5 @@
 -- What a reading answers by its steps: the outline, and behind it the exchange's own checks.
+use Rattle.std.specs.Prelude.{None, Option}
 use Prim.Native.Nat.{ℕ, ◌*◌, ◌≤◌}
 use mathlib.Core.Path.{◌≡◌, refl, sym, ap, ◌∙◌}
 use mathlib.Core.Bool.{Bool, true, false, cond}
@@ -8,8 +9,6 @@ use native.Mathlib.Omega.{arith}
 use lib.Dec.{eqb, leb}
 use borrow.Author.Tests.{eqb-true, ne_eqb}
 use Rattle.digits.proofs.Bools.{and_left, and_right, and_both}
-use Rattle.digits.specs.declared.halves.Place.{Place}
-use Rattle.digits.specs.declared.halves.Place.TheVariants.{None}
 use Rattle.layout.specs.Places.{first_bad}
 use Rattle.layout.specs.Checks.{Check, must, first_fail}
 use Rattle.layout.proofs.CheckLaws.{numbered, first_fail-append, none-fails, all_hold_lem}
@@ -85,7 +84,7 @@ module _ {H : Header} (E : Exchange H) where
         ∙ ap (λ (k : ℕ). named k (frame_at E t) (place_of E k t)) (sym (checks-not t h))
       where
         -- a refusal says nothing of the frame but its length
-        refusal : (n : ℕ) (f g : Frame) (p : Place) → (n ≡ 0 → ⊥) → f.length ≡ g.length → named n f p ≡ named n g p
+        refusal : (n : ℕ) (f g : Frame) (p : Option ℕ) → (n ≡ 0 → ⊥) → f.length ≡ g.length → named n f p ≡ named n g p
         refusal n f g p h e =
             rw (ne_eqb n 0 h) (ap (λ (l : ℕ). cond (leb n 5) (NoFrame n p) (Refused n l p)) e)
 

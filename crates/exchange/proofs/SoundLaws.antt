@@ -1,5 +1,6 @@
 -- An exchange's reading is sound, so the laws of a walk hold of its lines: a whole frame stands within the bytes, a reading waits for no more
 -- than the longest frame, and bytes that follow take no answer and no message back.
+use Rattle.std.specs.Prelude.{None}
 use Prim.Native.Nat.{ℕ, ◌*◌, ◌≤◌, ◌<◌}
 use mathlib.Core.Path.{◌≡◌, refl, sym, ap, ◌∙◌}
 use mathlib.Core.Bool.{Bool, true, false, cond, ◌&&◌, ◌||◌}
@@ -9,7 +10,6 @@ use native.Mathlib.Omega.{arith}
 use lib.ListN.{length, get_or, take}
 use lib.Dec.{eqb, leb}
 use borrow.Author.Tests.{eqb-true, eqb-false, eq-eqb, ne_eqb, leb-true, leb-false, lt-leb}
-use Rattle.digits.specs.declared.halves.Place.TheVariants.{None}
 use Rattle.digits.proofs.Bools.{no_false}
 use Rattle.layout.specs.Places.{first_bad}
 use Rattle.layout.specs.Checks.{first_fail}

@@ -1,8 +1,7 @@
 -- Where a reading says that the bad digit is.
-use Rattle.std.specs.Prelude.{ℕ, ◌*◌, ◌≤◌, ◌<◌, ◌≡◌, false, List, drop}
+use Rattle.std.specs.Prelude.{ℕ, ◌*◌, ◌≤◌, ◌<◌, ◌≡◌, false, List, drop, None, Some}
 use Rattle.digits.specs.Packed.{good_field}
 use Rattle.digits.specs.Halves.{is_none, Lowest}
-use Rattle.digits.specs.declared.halves.Place.TheVariants.{None, Half}
 use Rattle.layout.specs.Places.{bad_half}
 use Rattle.answers.specs.Answers.{answer_number, answer_place}
 use Rattle.frame.specs.Header.{Header, length_at, start, length_bytes, length_cells, head_cells, own, body}
@@ -22,4 +21,4 @@ pub record PlaceSays {H : Header} (E : Exchange H) (t : List ℕ) : Type 0 where
   -- beside any other number none
   pub no_other : (answer_number (answer_by E t) ≡ 3 → ⊥) → (answer_number (answer_by E t) ≡ 6 → ⊥) → (answer_number (answer_by E t) ≡ 11 → ⊥) → answer_place (answer_by E t) ≡ None
   -- and it lies within a frame, behind its first byte
-  pub within : (p : ℕ) → answer_place (answer_by E t) ≡ Half p → (2 ≤ p) × (p < 2 * H.most)
+  pub within : (p : ℕ) → answer_place (answer_by E t) ≡ Some p → (2 ≤ p) × (p < 2 * H.most)

@@ -1,7 +1,6 @@
 -- An exchange: behind its header, the checks on a frame's own bytes and what an accepted frame is called; so what a reading of its frames
 -- answers.
-use Rattle.std.specs.Prelude.{ℕ, ◌*◌, ◌≤◌, ◌≡◌, Bool, true, false, cond, ◌&&◌, List, [], ◌∷◌, ◌++◌, length, eqb, leb}
-use Rattle.digits.specs.declared.halves.Place.{Place}
+use Rattle.std.specs.Prelude.{ℕ, ◌*◌, ◌≤◌, ◌≡◌, Bool, true, false, cond, ◌&&◌, List, [], ◌∷◌, ◌++◌, length, eqb, leb, Option}
 use Rattle.layout.specs.Cells.{Cell, size, good_cells}
 use Rattle.layout.specs.Places.{first_bad}
 use Rattle.layout.specs.Checks.{Check, must, first_fail}
@@ -35,7 +34,7 @@ checks_of {H} E t = outline_checks H t ++ E.checks (own H t)
 
 -- where the bad digit is that an answer speaks of, in halves from the frame's first byte: beside 11 in the packed fields of the body,
 -- beside 3 and 6 in the outline; beside no other
-abbrev pub place_of : {H : Header} → Exchange H → ℕ → List ℕ → Place
+abbrev pub place_of : {H : Header} → Exchange H → ℕ → List ℕ → Option ℕ
 place_of {H} E n t =
     let f = own H t in
     cond (eqb n 11) (first_bad (E.cells f) (2 * start H) (body H f)) (outline_place H n t)

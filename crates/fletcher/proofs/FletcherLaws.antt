@@ -6,10 +6,9 @@ use mathlib.Core.List.{List, [], ◌∷◌, ◌++◌}
 use native.Mathlib.Omega.{arith}
 use native.Mathlib.Nat.{mul-add, add-mul, one-mul}
 use borrow.Author.Tests.{leb-true, leb-false}
-use lib.ListN.{get_or, take, drop, length, replicate, length-drop, length-replicate}
-use lib.Seq.{drop-drop, take-add, take_all}
+use lib.ListN.{take, drop, length, replicate, length-drop, length-replicate, drop_of_length-le}
+use lib.Seq.{take_all}
 use lib.Dec.{leb}
-use Rattle.list_laws.proofs.Turns.{at_drop}
 use Rattle.fletcher.specs.Fletcher.{sums_of, with_byte, with_bytes, fletcher, between}
 use Rattle.fletcher.specs.declared.Sums.{Sums}
 
@@ -36,22 +35,6 @@ small-reduced s h = ap₂ sums_of (omega (arith, h.0)) (omega (arith, h.1))
 -- a byte more of sums that have grown, reduced before or after
 pub reduced-byte : (a b x : ℕ) → with_byte (sums_of (a % 255) (b % 255)) x ≡ sums_of ((a + x) % 255) ((b + (a + x)) % 255)
 reduced-byte a b x = ap₂ sums_of (omega arith) (omega arith)
-
--- bytes from a place on: the first, and the rest; in two parts; and none
-pub between_next : (bs : List ℕ) (i to : ℕ) → i < to → i < length bs → between i to bs ≡ get_or bs i 0 ∷ between (i + 1) to bs
-between_next bs i to h l =
-    let e : to - i ≡ suc (to - (i + 1)) = omega arith in
-    ap₂ take e (at_drop bs i l)
-
-pub between-parts : (bs : List ℕ) (from mid to : ℕ) → from ≤ mid → mid ≤ to → between from to bs ≡ between from mid bs ++ between mid to bs
-between-parts bs from mid to f t =
-    let e : to - from ≡ mid - from + (to - mid) = omega arith in
-    let g : from + (mid - from) ≡ mid = omega arith in
-    ap (λ (n : ℕ). take n (drop from bs)) e ∙ take-add (mid - from) (to - mid) (drop from bs)
-    ∙ ap (λ (l : List ℕ). between from mid bs ++ take (to - mid) l) (drop-drop (mid - from) from bs ∙ ap (λ (n : ℕ). drop n bs) g)
-
-pub between_none : (bs : List ℕ) (from to : ℕ) → to ≤ from → between from to bs ≡ []
-between_none bs from to h = let e : to - from ≡ 0 = omega arith in ap (λ (n : ℕ). take n (drop from bs)) e
 
 -- what is not there is left out
 pub between-there : (bs : List ℕ) (from to : ℕ) → between from (min to (length bs)) bs ≡ between from to bs
@@ -86,48 +69,42 @@ module _ (a b x w left k : ℕ) (one : left ≡ k + 1) (ahead : left * a ≤ b) 
 pub sum-starts : (n a b w : ℕ) → w ≡ n * a → n * a ≤ b + w
 sum-starts n a b w h = omega (arith, h)
 
-pub sum-ends : (bs : List ℕ) (from to i a b a₀ b₀ w : ℕ) → to ≤ i → w ≡ (to - from) * a₀
-    → with_bytes (sums_of (a % 255) ((b - (to - i) * a) % 255)) (between i to bs)
-    ≡ with_bytes (sums_of (a₀ % 255) ((b₀ + w - (to - from) * a₀) % 255)) (between from to bs)
-    → sums_of (a % 255) (b % 255) ≡ with_bytes (sums_of (a₀ % 255) (b₀ % 255)) (between from to bs)
-sum-ends bs from to i a b a₀ b₀ w h brings inv =
-    let none : to - i ≡ 0 = omega arith in
-    let end : b - (to - i) * a ≡ b = ap (λ (k : ℕ). b - k * a) none ∙ omega arith in
-    let start : b₀ + w - (to - from) * a₀ ≡ b₀ = omega (arith, brings) in
+pub sum-ends : (bs : List ℕ) (i a b a₀ b₀ w : ℕ) → length bs ≤ i → w ≡ length bs * a₀
+    → with_bytes (sums_of (a % 255) ((b - (length bs - i) * a) % 255)) (drop i bs)
+    ≡ with_bytes (sums_of (a₀ % 255) ((b₀ + w - length bs * a₀) % 255)) bs
+    → sums_of (a % 255) (b % 255) ≡ with_bytes (sums_of (a₀ % 255) (b₀ % 255)) bs
+sum-ends bs i a b a₀ b₀ w h brings inv =
+    let none : length bs - i ≡ 0 = omega arith in
+    let end : b - (length bs - i) * a ≡ b = ap (λ (k : ℕ). b - k * a) none ∙ omega arith in
+    let start : b₀ + w - length bs * a₀ ≡ b₀ = omega (arith, brings) in
     ap (λ (y : ℕ). sums_of (a % 255) (y % 255)) (sym end)
-    ∙ ap (with_bytes (sums_of (a % 255) ((b - (to - i) * a) % 255))) (sym (between_none bs i to h))
+    ∙ ap (with_bytes (sums_of (a % 255) ((b - (length bs - i) * a) % 255))) (sym (drop_of_length-le bs {i = i} h))
     ∙ inv
-    ∙ ap (λ (y : ℕ). with_bytes (sums_of (a₀ % 255) (y % 255)) (between from to bs)) start
+    ∙ ap (λ (y : ℕ). with_bytes (sums_of (a₀ % 255) (y % 255)) bs) start
 
--- one piece more
-module _ (bs : List ℕ) (s : Sums) (at next end : ℕ) (h : Small s) (up : at ≤ next) (in-it : next ≤ end) (r : Sums)
-    (is : r ≡ with_bytes (sums_of (s.first % 255) (s.second % 255)) (between at next bs)) where
-  here : r ≡ with_bytes s (between at next bs)
-  here = is ∙ ap (λ (t : Sums). with_bytes t (between at next bs)) (small-reduced s h)
+-- one piece more, which leaves the rest
+module _ (s : Sums) (h : Small s) (piece : List ℕ) (r : Sums) (is : r ≡ with_bytes (sums_of (s.first % 255) (s.second % 255)) piece) where
+  here : r ≡ with_bytes s piece
+  here = is ∙ ap (λ (t : Sums). with_bytes t piece) (small-reduced s h)
 
   pub piece-small : Small r
-  piece-small = rw here (with_bytes-small s (between at next bs) h)
+  piece-small = rw here (with_bytes-small s piece h)
 
-  pub piece-turn : with_bytes r (between next end bs) ≡ with_bytes s (between at end bs)
-  piece-turn =
-      ap (λ (t : Sums). with_bytes t (between next end bs)) here
-      ∙ sym (with_bytes-append s (between at next bs) (between next end bs))
-      ∙ ap (with_bytes s) (sym (between-parts bs at next end up in-it))
+  pub piece-turn : (rest : List ℕ) → with_bytes r rest ≡ with_bytes s (piece ++ rest)
+  piece-turn rest = ap (λ (t : Sums). with_bytes t rest) here ∙ sym (with_bytes-append s piece rest)
 
--- the last piece
-pub piece-last : (bs : List ℕ) (s : Sums) (at end : ℕ) → Small s → (r : Sums)
-    → r ≡ with_bytes (sums_of (s.first % 255) (s.second % 255)) (between at end bs) → r ≡ with_bytes s (between at end bs)
-piece-last bs s at end h r is = is ∙ ap (λ (t : Sums). with_bytes t (between at end bs)) (small-reduced s h)
-
--- the sums of what is there are those of what is asked for
-pub sums-all : (bs : List ℕ) (from to end : ℕ) (r : Sums) → end ≡ min to (length bs) → r ≡ with_bytes (sums_of 0 0) (between from end bs) → r ≡ fletcher (between from to bs)
+-- where nothing is left the sums are those of what is asked for, and where nothing is there
+pub sums-all : (bs : List ℕ) (from to end : ℕ) (s : Sums) (rest : List ℕ) → end ≡ min to (length bs)
+    → with_bytes s rest ≡ with_bytes (sums_of 0 0) (between from end bs) → length rest ≤ 0 → s ≡ fletcher (between from to bs)
 unfolding fletcher
-sums-all bs from to end r there is =
-    is ∙ ap (λ (n : ℕ). with_bytes (sums_of 0 0) (between from n bs)) there ∙ ap (with_bytes (sums_of 0 0)) (between-there bs from to)
+sums-all bs from to end s rest there inv none =
+    ap (with_bytes s) (sym (drop_of_length-le rest {i = 0} none)) ∙ inv
+    ∙ ap (λ (n : ℕ). with_bytes (sums_of 0 0) (between from n bs)) there ∙ ap (with_bytes (sums_of 0 0)) (between-there bs from to)
 
-pub sums_none : (bs : List ℕ) (from to end : ℕ) (r : Sums) → end ≡ min to (length bs) → end ≤ from → r ≡ sums_of 0 0 → r ≡ fletcher (between from to bs)
-sums_none bs from to end r there none is =
-    sums-all bs from to end r there (is ∙ ap (with_bytes (sums_of 0 0)) (sym (between_none bs from end none)))
+pub sums_none : (bs : List ℕ) (from to end : ℕ) → end ≡ min to (length bs) → end ≤ from → sums_of 0 0 ≡ fletcher (between from to bs)
+sums_none bs from to end there none =
+    let e : end - from ≡ 0 = omega arith in
+    sums-all bs from to end (sums_of 0 0) [] there (ap (λ (n : ℕ). with_bytes (sums_of 0 0) (take n (drop from bs))) (sym e)) (omega arith)
 
 -- ---- sums in parts
 -- the first byte

@@ -1,11 +1,11 @@
 // Fletcher-16 of bytes. The sums are reduced once for many bytes: until then they only grow.
 #![tactic(auto)]
 
-ghost use Rattle.std.specs.Prelude.{◌≡◌, ◌+◌, ◌*◌, ◌%◌, ◌≤◌, min, length};
+ghost use Rattle.std.specs.Prelude.{◌≡◌, ◌*◌, ◌%◌, ◌≤◌, length};
 ghost use Rattle.fletcher.specs.Fletcher.{sums_of, with_bytes, fletcher, between};
 
 // Both sums, each from 0 to 254.
-#[derive(Clone, Copy)]
+#[derive(Clone, Copy, Debug, PartialEq, Eq)]
 pub struct Sums {
     pub first: u8,
     pub second: u8,
@@ -13,12 +13,6 @@ pub struct Sums {
 
 // So many bytes are summed before the sums are reduced.
 const PIECE: usize = 1020;
-
-fn wide(b: u8) -> u32
-    ensures { (result ≡ b) × (result ≤ 255) }
-{
-    b as u32
-}
 
 // What a byte brings to the second sum where so many bytes are left, itself among them. They are fewer than 1,024: said so, the compiler
 // takes several bytes at a time.
@@ -39,53 +33,35 @@ fn reduced(first: u32, second: u32) -> Sums
     }
 }
 
-// With the bytes from one place up to another more. The first sum goes into the second once for each byte, and so does each byte once for
-// itself and once for each that follows it.
-fn with_piece(s: Sums, bytes: &[u8], from: usize, to: usize) -> Sums
-    requires { (from ≤ to) × (to ≤ length bytes.now) × (to ≤ from + 1020) }
-    ensures { result ≡ with_bytes (sums_of (s.first % 255) (s.second % 255)) (between from to bytes.now) }
+// With the bytes of a piece more. The first sum goes into the second once for each byte, and so does each byte once for itself and once
+// for each that follows it.
+fn with_piece(s: Sums, piece: &[u8]) -> Sums
+    requires { length piece.now ≤ 1020 }
+    ensures { result ≡ with_bytes (sums_of (s.first % 255) (s.second % 255)) piece.now }
 {
-    let mut first = wide(s.first);
-    let mut second = wide(s.second) + weighted(to - from, first);
-    let mut i = from;
-    while i < to {
-        let b = wide(bytes[i]);
+    let mut first = u32::from(s.first);
+    let mut second = u32::from(s.second) + weighted(piece.len(), first);
+    for (i, &b) in piece.iter().enumerate() {
+        let b = u32::from(b);
         first += b;
-        second += weighted(to - i, b);
-        i += 1;
+        second += weighted(piece.len() - i, b);
     }
     reduced(first, second)
-}
-
-fn least(a: usize, b: usize) -> usize
-    ensures { result ≡ min a b }
-{
-    if a < b { a } else { b }
-}
-
-fn no_sums() -> Sums
-    ensures { result ≡ sums_of 0 0 }
-{
-    Sums {
-        first: 0,
-        second: 0,
-    }
 }
 
 // Fletcher-16 of the bytes from one place up to another, as far as they are there.
 pub fn check_sums(bytes: &[u8], from: usize, to: usize) -> Sums
     ensures { result ≡ fletcher (between from to bytes.now) }
 {
-    let end = least(to, bytes.len());
-    if end <= from {
-        return no_sums();
+    let mut s = Sums {
+        first: 0,
+        second: 0,
+    };
+    let end = to.min(bytes.len());
+    if from < end {
+        for piece in bytes[from..end].chunks(PIECE) {
+            s = with_piece(s, piece);
+        }
     }
-    let mut s = no_sums();
-    let mut at = from;
-    while PIECE < end - at {
-        let next = at + PIECE;
-        s = with_piece(s, bytes, at, next);
-        at = next;
-    }
-    with_piece(s, bytes, at, end)
+    s
 }

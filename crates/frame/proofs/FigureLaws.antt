@@ -1,4 +1,5 @@
 -- An outline by any header and a writing tell the figures that the rules name beside their numbers, and no others.
+use Rattle.std.specs.Prelude.{Err, Ok, Option}
 use Prim.Native.Nat.{ℕ, ◌≤◌}
 use mathlib.Core.Path.{◌≡◌, refl, sym, ap, ◌∙◌}
 use mathlib.Core.Bool.{Bool, true, false, cond}
@@ -7,20 +8,19 @@ use native.Mathlib.Omega.{arith}
 use lib.ListN.{length}
 use lib.Dec.{eqb, leb}
 use borrow.Author.Tests.{eqb-true, le-leb, lt-leb, leb-true}
-use Rattle.digits.specs.declared.halves.Place.{Place}
 use Rattle.digits.proofs.Bools.{and_left, and_right}
 use Rattle.layout.specs.Checks.{Check, must, first_fail}
 use Rattle.answers.specs.Answers.{named, answer_number, answer_values, place_values}
 use Rattle.answers.specs.declared.Frame.{Frame}
 use Rattle.answers.specs.declared.Answer.{Answer}
 use Rattle.answers.specs.declared.Answer.TheVariants.{Accepted, NoFrame, Refused}
-use Rattle.answers.specs.declared.Written.TheVariants.{Done, Illegal, NoRoom}
 use Rattle.frame.specs.Header.{Header, length_of, outline_checks, outline_place}
 use Rattle.frame.specs.Writing.{write_answer, close_answer}
 use Rattle.frame.specs.Figures.{beside, at_most, OutlineTells, WriteSays}
+use Rattle.answers.specs.declared.WriteError.TheVariants.{Illegal, NoRoom}
 
 -- ---- an answer made of a number and a frame
-pub number-named : (n : ℕ) (f : Frame) (p : Place) → answer_number (named n f p) ≡ n
+pub number-named : (n : ℕ) (f : Frame) (p : Option ℕ) → answer_number (named n f p) ≡ n
 number-named n f p = go (eqb n 0) refl (leb n 5)
   where
     go : (t : Bool) → eqb n 0 ≡ t → (u : Bool) → answer_number (cond t (Accepted f) (cond u (NoFrame n p) (Refused n f.length p))) ≡ n
@@ -28,7 +28,7 @@ number-named n f p = go (eqb n 0) refl (leb n 5)
     go false e true = refl
     go false e false = refl
 
-pub values-named : (n : ℕ) (f : Frame) (p : Place) → answer_values (named n f p) ≡ beside n (f.format ∷ f.seq ∷ f.length ∷ []) f.length p
+pub values-named : (n : ℕ) (f : Frame) (p : Option ℕ) → answer_values (named n f p) ≡ beside n (f.format ∷ f.seq ∷ f.length ∷ []) f.length p
 values-named n f p = go (eqb n 0) (leb n 5)
   where
     go : (t u : Bool) → answer_values (cond t (Accepted f) (cond u (NoFrame n p) (Refused n f.length p)))
@@ -54,7 +54,7 @@ module _ {O : Type 0} (number : O → ℕ) (values : O → List ℕ) (not : Answ
   abbrev none : Frame
   none = record { format = 0; seq = 0; length = length_of H t }
 
-  abbrev p : Place
+  abbrev p : Option ℕ
   p = outline_place H n t
 
   abbrev outline : O
@@ -80,7 +80,7 @@ module _ {O : Type 0} (number : O → ℕ) (values : O → List ℕ) (not : Answ
   }
 
 -- ---- a writing
-says : (legal : Bool) (n room : ℕ) → WriteSays legal n room (cond legal (cond (leb n room) (Done n) NoRoom) Illegal)
+says : (legal : Bool) (n room : ℕ) → WriteSays legal n room (cond legal (cond (leb n room) (Ok n) (Err NoRoom)) (Err Illegal))
 says legal n room = record {
   written = λ l h. rw (l, le-leb n room h) (refl, refl);
   illegal = λ l. rw l (refl, refl);

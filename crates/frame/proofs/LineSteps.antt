@@ -1,4 +1,5 @@
 -- A frame at a place on a line: its first byte, the bytes of its length, and the length as one number. Over any header.
+use Rattle.std.specs.Prelude.{None, Option, Some}
 use Prim.Native.Nat.{ℕ, suc, ◌+◌, ◌<◌}
 use mathlib.Core.Path.{◌≡◌, refl, sym, ap, ◌∙◌}
 use mathlib.Core.Bool.{Bool, true, false, cond}
@@ -8,11 +9,8 @@ use lib.Dec.{eqb}
 use lib.ListN.{length, get_or, take, drop}
 use lib.Seq.{drop-cons, drop-drop, get_or-drop}
 use Rattle.words.specs.Xor.{xor_of}
-use Rattle.digits.specs.declared.halves.Place.TheVariants.{None}
 use Rattle.layout.specs.Checks.{must, first_fail}
 use Rattle.frame.specs.Header.{Header, length_at, length_bytes, length_of, own, inner, head_good, head_bad, check_byte, ended, length_right, last_checks, outline_place}
-use Rattle.frame.specs.Codec.{HeaderLaw}
-use Rattle.frame.proofs.HeaderLaws.{right-length}
 
 -- two bytes side by side
 pub two_bytes : (l : List ℕ) (i j : ℕ) → j ≡ suc i → j < length l → take 2 (drop i l) ≡ get_or l i 0 ∷ get_or l j 0 ∷ []
@@ -30,21 +28,21 @@ pub length-bytes-at : (H : Header) (line : List ℕ) (at i j : ℕ) → i ≡ at
 length-bytes-at H line at i j e f h =
     ap (take 2) (drop-drop (length_at H) at line ∙ ap (λ (k : ℕ). drop k line) (sym e)) ∙ two_bytes line i j f h
 
--- the length as one number, 0 where there is none
-module _ (H : Header) (law : HeaderLaw H) (t : List ℕ) (n : ℕ) (is : n ≡ cond (length_right H t) (length_of H t) 0) where
-  pub length_none : n ≡ 0 → length_right H t ≡ false
-  length_none z = go (length_right H t) refl is
+-- the length, where there is one
+module _ (H : Header) (t : List ℕ) (r : Option ℕ) (is : r ≡ cond (length_right H t) (Some (length_of H t)) None) where
+  pub length_none : r ≡ None → length_right H t ≡ false
+  length_none z = go (length_right H t) (sym is ∙ z)
     where
-      go : (r : Bool) → length_right H t ≡ r → n ≡ cond r (length_of H t) 0 → r ≡ false
-      go false e q = refl
-      go true e q = absurd (omega (arith, (right-length H law t e).0, law.least-around))
+      go : (b : Bool) → cond b (Some (length_of H t)) None ≡ None → b ≡ false
+      go false e = refl
+      go true e = cc
 
-  pub length_some : (n ≡ 0 → ⊥) → (length_right H t ≡ true) × (n ≡ length_of H t)
-  length_some some = go (length_right H t) is
+  pub length_some : (n : ℕ) → r ≡ Some n → (length_right H t ≡ true) × (n ≡ length_of H t)
+  length_some n z = go (length_right H t) (sym z ∙ is)
     where
-      go : (r : Bool) → n ≡ cond r (length_of H t) 0 → (r ≡ true) × (n ≡ length_of H t)
-      go true q = (refl, q)
-      go false q = absurd (some q)
+      go : (b : Bool) → Some n ≡ cond b (Some (length_of H t)) None → (b ≡ true) × (n ≡ length_of H t)
+      go true e = (refl, cc)
+      go false e = (cc, cc)
 
 -- the last checks speak of no digit of the length
 pub last-place : (H : Header) (t : List ℕ)

@@ -1,4 +1,5 @@
 -- A message's frame written: its body put at its place, then closed. Over any header and any kind's messages.
+use Rattle.std.specs.Prelude.{Err, Ok, Result}
 use Prim.Native.Nat.{ℕ, ◌+◌, ◌-◌, ◌≤◌, ◌<◌}
 use mathlib.Core.Path.{◌≡◌, ap, ap₂, ◌∙◌}
 use mathlib.Core.Bool.{Bool, true, cond}
@@ -13,13 +14,13 @@ use Rattle.digits.proofs.FieldLaws.{taken-sets}
 use Rattle.layout.specs.Cells.{size, encode}
 use Rattle.layout.proofs.CellLaws.{length-encode}
 use Rattle.layout.proofs.PutLaws.{drop-sets}
-use Rattle.answers.specs.declared.Written.{Written}
-use Rattle.answers.specs.declared.Written.TheVariants.{Done, NoRoom}
 use Rattle.frame.specs.Header.{Header, start, around}
 use Rattle.frame.specs.Writing.{frame_around, write_answer, written_over, close_answer, closed_over}
 use Rattle.frame.specs.Codec.{Codec, legal, frame_of, Lawful}
 use Rattle.frame.proofs.CodecLaws.{legal-fits, length-frame_of}
 use Rattle.frame.proofs.WriteLaws.{write-short, write-whole}
+use Rattle.answers.specs.declared.WriteError.{WriteError}
+use Rattle.answers.specs.declared.WriteError.TheVariants.{NoRoom}
 
 -- ---- closing around a body that was put at its place
 module _ (H : Header) (right : Bool) (vs ws : List ℕ) (n : ℕ) (buf t b : List ℕ) (c : right ≡ true) (fit : n ≤ length buf)
@@ -35,7 +36,7 @@ module _ (H : Header) (right : Bool) (vs ws : List ℕ) (n : ℕ) (buf t b : Lis
   rest-kept : drop n t ≡ drop n buf
   rest-kept = ap (drop n) so ∙ drop-sets b buf (start H) n (omega arith)
 
-  pub close-answers : close_answer right n t ≡ Done n
+  pub close-answers : close_answer right n t ≡ Ok n
   close-answers = rw (c, same-room)
 
   pub close-leaves : closed_over H right vs ws n t ≡ frame_around H vs ws b ++ drop n buf
@@ -51,11 +52,11 @@ module _ {H : Header} {M : Type 0} (C : Codec H M) (Shaped : M → Type 0) (law 
 
   -- the buffer is too short
   pub message-short : (buf : List ℕ) → length buf < whole
-      → (NoRoom ≡ write_answer allowed (frame_of C m) buf) × (buf ≡ written_over allowed (frame_of C m) buf)
+      → (Err NoRoom ≡ write_answer allowed (frame_of C m) buf) × (buf ≡ written_over allowed (frame_of C m) buf)
   message-short buf h = write-short allowed (frame_of C m) buf e whole (length-frame_of C Shaped law m s l) h
 
   -- its body was put at its place, then closing answered and left u
-  pub message-closed : (right : Bool) → right ≡ true → (buf t u : List ℕ) (answer : Written) → whole ≤ length buf
+  pub message-closed : (right : Bool) → right ≡ true → (buf t u : List ℕ) (answer : Result ℕ WriteError) → whole ≤ length buf
       → t ≡ sets buf (start H) (encode (C.cells m) (C.values m))
       → answer ≡ close_answer right whole t → u ≡ closed_over H right (C.before m) (C.behind m) whole t
       → (answer ≡ write_answer allowed (frame_of C m) buf) × (u ≡ written_over allowed (frame_of C m) buf)

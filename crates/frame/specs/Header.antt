@@ -1,10 +1,8 @@
 -- The common frame over any header: 27, the header with the length in it, the body, the check byte, 0D 0A.
-use Rattle.std.specs.Prelude.{ℕ, ◌+◌, ◌-◌, ◌*◌, ◌≡◌, Bool, true, cond, ◌&&◌, List, [], ◌∷◌, ◌++◌, length, get_or, take, drop, eqb, leb}
+use Rattle.std.specs.Prelude.{ℕ, ◌+◌, ◌-◌, ◌*◌, ◌≡◌, Bool, true, cond, ◌&&◌, List, [], ◌∷◌, ◌++◌, length, get_or, take, drop, eqb, leb, None, Option}
 use Rattle.words.specs.Xor.{xor_of}
 use Rattle.digits.specs.Packed.{good_field, value}
 use Rattle.digits.specs.Halves.{or_else}
-use Rattle.digits.specs.declared.halves.Place.{Place}
-use Rattle.digits.specs.declared.halves.Place.TheVariants.{None}
 use Rattle.layout.specs.Cells.{Cell, digits, size, good_cells, decode}
 use Rattle.layout.specs.Places.{first_bad}
 use Rattle.layout.specs.Checks.{Check, must}
@@ -70,7 +68,7 @@ rear H f = decode H.after (drop (length_end H) f)
 abbrev pub head_good : Header → List ℕ → Bool
 head_good H f = good_cells H.before (drop 1 f) && good_cells H.after (drop (length_end H) f)
 
-abbrev pub head_bad : Header → List ℕ → Place
+abbrev pub head_bad : Header → List ℕ → Option ℕ
 head_bad H f = or_else (first_bad H.before 2 (drop 1 f)) (first_bad H.after (2 * length_end H) (drop (length_end H) f))
 
 -- the check byte and the last two bytes
@@ -103,7 +101,7 @@ outline_checks H t =
 
 -- where the bad digit is that an answer speaks of, in halves from the frame's first byte: beside 3 in the length, if one is the cause;
 -- beside 6 in the rest of the header; beside no other
-abbrev pub outline_place : Header → ℕ → List ℕ → Place
+abbrev pub outline_place : Header → ℕ → List ℕ → Option ℕ
 outline_place H n t =
     cond (eqb n 3) (first_bad length_cells (2 * length_at H) (length_bytes H t))
     (cond (eqb n 6) (head_bad H (own H t)) None)

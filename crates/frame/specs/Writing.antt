@@ -1,11 +1,11 @@
 -- A frame written: 27, what the check byte covers, the check byte, 0D 0A; and what a writing answers and leaves.
-use Rattle.std.specs.Prelude.{ℕ, ◌-◌, Bool, cond, ◌&&◌, List, [], ◌∷◌, ◌++◌, length, take, drop, leb}
+use Rattle.std.specs.Prelude.{ℕ, ◌-◌, Bool, cond, ◌&&◌, List, [], ◌∷◌, ◌++◌, length, take, drop, leb, Err, Ok, Result}
 use Rattle.digits.specs.Packed.{packed}
 use Rattle.layout.specs.Cells.{encode}
 use Rattle.words.specs.Xor.{xor_of}
-use Rattle.answers.specs.declared.Written.{Written}
-use Rattle.answers.specs.declared.Written.TheVariants.{Done, Illegal, NoRoom}
 use Rattle.frame.specs.Header.{Header, start, around}
+use Rattle.answers.specs.declared.WriteError.{WriteError}
+use Rattle.answers.specs.declared.WriteError.TheVariants.{Illegal, NoRoom}
 
 -- the bytes around what the check byte covers
 abbrev pub sealed : List ℕ → List ℕ
@@ -20,15 +20,15 @@ abbrev pub frame_around : Header → List ℕ → List ℕ → List ℕ → List
 frame_around H vs ws b = sealed (head_bytes H vs ws (length b) ++ b)
 
 -- what writing a frame into a buffer answers, and the buffer afterwards: 14 before 15, and a refusal leaves it
-abbrev pub write_answer : Bool → List ℕ → List ℕ → Written
-write_answer legal f buf = cond legal (cond (leb (length f) (length buf)) (Done (length f)) NoRoom) Illegal
+abbrev pub write_answer : Bool → List ℕ → List ℕ → Result ℕ WriteError
+write_answer legal f buf = cond legal (cond (leb (length f) (length buf)) (Ok (length f)) (Err NoRoom)) (Err Illegal)
 
 abbrev pub written_over : Bool → List ℕ → List ℕ → List ℕ
 written_over legal f buf = cond (legal && leb (length f) (length buf)) (f ++ drop (length f) buf) buf
 
 -- the body stands at its place in a buffer: what closing the frame of n bytes around it answers, if its header's numbers and n are right, and the buffer afterwards
-abbrev pub close_answer : Bool → ℕ → List ℕ → Written
-close_answer right n buf = cond right (cond (leb n (length buf)) (Done n) NoRoom) Illegal
+abbrev pub close_answer : Bool → ℕ → List ℕ → Result ℕ WriteError
+close_answer right n buf = cond right (cond (leb n (length buf)) (Ok n) (Err NoRoom)) (Err Illegal)
 
 abbrev pub closed_over : Header → Bool → List ℕ → List ℕ → ℕ → List ℕ → List ℕ
 closed_over H right vs ws n buf =

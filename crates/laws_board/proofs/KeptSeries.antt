@@ -5,9 +5,9 @@ use mathlib.Core.Bool.{Bool, true, false, cond, not}
 use mathlib.Core.List.{List, [], ◌∷◌, ◌++◌}
 use native.Mathlib.Omega.{arith}
 use lib.ListN.{length, get_or, set, take, drop, replicate, length-set, length-drop, length-replicate, replicate-append-replicate}
-use lib.Seq.{sets, sets-eq, length-sets, take_at, drop_at, take-set-le, drop-set-add, set_out}
+use lib.Seq.{sets, sets-eq, length-sets, take_at, drop_at, take-set-le, drop-set-add}
 use lib.Dec.{eqb, ltb}
-use borrow.Author.Tests.{eq-eqb, ltb-true, ltb-false}
+use borrow.Author.Tests.{eq-eqb, ltb-true}
 use Rattle.amounts.specs.declared.Pair.{Pair}
 use Rattle.stock_frame.specs.Codec.{legal}
 use Rattle.stock_quotes.specs.Quotes.{flat, six_codec}
@@ -18,18 +18,17 @@ use Rattle.stock_quotes.specs.declared.Quote.{Quote}
 use Rattle.stock_quotes_numbers.specs.Numbers.{pairs_at}
 use Rattle.stock_quotes_numbers.proofs.NumberLaws.{of-five}
 use Rattle.stock_board.specs.Rows.{side, free_row, side_after, row_after}
-use Rattle.stock_board.specs.declared.BoardAnswer.TheVariants.{Done, Refused}
-use Rattle.stock_board.specs.Board.{last_of_day, unchanged, place_of, change_by, change_of, changed, asked_of, row_at_of, in_use_of}
+use Rattle.std.specs.Prelude.{Some, None, Ok, Err}
+use Rattle.stock_board.specs.declared.BoardError.TheVariants.{NotWritable, WrongLength, Full}
+use Rattle.stock_board.specs.Board.{last_of_day, place_of, Changes, change_by, change_of, answer_of, changed, asked_of, row_at_of, in_use_of}
 use Rattle.stock_board.specs.declared.Row.{Row}
 use Rattle.stock_board.specs.declared.Side.{Side}
-use Rattle.stock_board.specs.declared.Change.{Change}
 use Rattle.stock_board_flat.specs.Flat.{Flat, whole, head_of, kept_of, cells_of, shown_in, row_from, rows_from, rows_of, stored_at}
-use Rattle.stock_board_flat.specs.Calls.{change_flat, taken_answer, taken_flat, clear_flat, asked_flat, row_at_flat, in_use_flat}
+use Rattle.stock_board_flat.specs.Calls.{change_flat, taken_answer, stored, taken_flat, clear_flat, asked_flat, row_at_flat, in_use_flat}
 use Rattle.stock_board_flat.specs.Steps.{Whole}
 use Rattle.stock_board_flat.proofs.CodeLaws.{code-small}
 use Rattle.stock_board_flat.proofs.WholeLaws.{whole_long}
-use Rattle.stock_board_flat.proofs.RowLaws.{length-rows}
-use Rattle.stock_board_flat.proofs.TakeLaws.{code-is-right, stored-out}
+use Rattle.stock_board_flat.proofs.TakeLaws.{code-is-right}
 use Rattle.laws_board.specs.History.{AllOf, after, answer_to}
 use Rattle.laws_board.specs.Kept.{Held, after_flat, KeptTells}
 use Rattle.laws_board.proofs.RowBack.{SideFits, Storable, row_back}
@@ -77,16 +76,10 @@ cells-long row s =
     tail = (kept_of row).reveal ∷ (kept_of row).time % 4294967296 ∷ (kept_of row).time / 4294967296 ∷ []
 
 -- ---- a row put at its place
-stored-rows : (f : Flat) (at : ℕ) (row : Row) → Whole f → Storable row → rows_of (stored_at f at row) ≡ set (rows_of f) at row
-stored-rows f at row w s = go (ltb at 256) refl
-  where
-    go : (t : Bool) → ltb at 256 ≡ t → rows_of (stored_at f at row) ≡ set (rows_of f) at row
-    go true p =
-        rows-set f.heads f.cells at _ (cells_of (kept_of row)) (cells-long row s) (omega (arith, ltb-true at 256 p, w.heads-long)) (omega (arith, w.heads-long, w.cells-long))
-        ∙ ap (set (rows_of f) at) (row_back row s)
-    go false p =
-        let h = ltb-false at 256 p in
-        ap rows_of (sym (stored-out f at row w h)) ∙ sym (set_out (rows_of f) at row (omega (arith, length-rows f.heads f.cells, w.heads-long)))
+stored-rows : (f : Flat) (at : ℕ) (row : Row) → Whole f → at < 256 → Storable row → rows_of (stored_at f at row) ≡ set (rows_of f) at row
+stored-rows f at row w h s =
+    rows-set f.heads f.cells at _ (cells_of (kept_of row)) (cells-long row s) (omega (arith, h, w.heads-long)) (omega (arith, w.heads-long, w.cells-long))
+    ∙ ap (set (rows_of f) at) (row_back row s)
 
 -- the lists keep their lengths
 stored-whole : (f : Flat) (at : ℕ) (row : Row) → whole f ≡ true → whole (stored_at f at row) ≡ true
@@ -129,19 +122,31 @@ after-storable row b a m h l = record {
   asks-fit = side-fits row.asks a m.levels (m.reveal / 2 % 8) m.asks (omega arith) h.shaped.asks-long;
 }
 
-change-storable : (n own : ℕ) (row : Row) → SideFits row.bids → SideFits row.asks → (free : ℕ) (m : Quote) → Held m → Storable (change_by n own row free m).row
+-- a change of a row that there is, to one that can be kept
+abbrev ChangeFits : Changes → Type 0
+ChangeFits (Ok (Some c)) = (c.at < 256) × Storable c.row
+ChangeFits (Ok None) = Unit {0}
+ChangeFits (Err e) = Unit {0}
+
+change-fits : (n own : ℕ) (row : Row) → SideFits row.bids → SideFits row.asks → (free : ℕ) (m : Quote) → Held m → ChangeFits (change_by n own row free m)
 unfolding change_by
-change-storable n own row b a free m h = go (eqb n 256) (legal six_codec m) refl (last_of_day m) (ltb own 256) (ltb free 256)
+change-fits n own row b a free m h = go (eqb n 256) (legal six_codec m) refl (last_of_day m) (ltb own 256) refl (ltb free 256) refl
   where
-    go : (w r : Bool) → legal six_codec m ≡ r → (c d e : Bool)
-        → Storable (cond (not w) (unchanged n (Refused 50)) (cond (not r) (unchanged n (Refused 14)) (cond c (unchanged n Done)
-        (cond d (record { at = own; row = row_after row m; answer = Done }) (cond e (record { at = free; row = row_after free_row m; answer = Done }) (unchanged n (Refused 52))))))).row
-    go false r p c d e = free-storable
-    go true false p c d e = free-storable
-    go true true p true d e = free-storable
-    go true true p false true e = after-storable row b a m h p
-    go true true p false false true = after-storable free_row free-storable.bids-fit free-storable.asks-fit m h p
-    go true true p false false false = free-storable
+    go : (w r : Bool) → legal six_codec m ≡ r → (c d : Bool) → ltb own 256 ≡ d → (e : Bool) → ltb free 256 ≡ e
+        → ChangeFits (cond (not w) (Err WrongLength) (cond (not r) (Err NotWritable) (cond c (Ok None)
+        (cond d (Ok (Some (record { at = own; row = row_after row m }))) (cond e (Ok (Some (record { at = free; row = row_after free_row m }))) (Err Full))))))
+    go false r p c d o e f = tt
+    go true false p c d o e f = tt
+    go true true p true d o e f = tt
+    go true true p false true o e f = (ltb-true own 256 o, after-storable row b a m h p)
+    go true true p false false o true f = (ltb-true free 256 f, after-storable free_row free-storable.bids-fit free-storable.asks-fit m h p)
+    go true true p false false o false f = tt
+
+-- so the lists behind it are a whole board, and hold the rows behind it
+stored-change : (f : Flat) (c : Changes) → whole f ≡ true → ChangeFits c → (whole (stored f c) ≡ true) × (rows_of (stored f c) ≡ changed (rows_of f) c)
+stored-change f (Ok (Some c)) all fit = (stored-whole f c.at c.row all, stored-rows f c.at c.row (whole_long f all) fit.0 fit.1)
+stored-change f (Ok None) all fit = (all, refl)
+stored-change f (Err e) all fit = (all, refl)
 
 -- the sides of every row that the lists hold do
 row_fits : (head : ℕ) (cells : List ℕ) → SideFits (row_from head cells).bids × SideFits (row_from head cells).asks
@@ -197,20 +202,17 @@ module _ (m : Quote) (ms : List Quote) (held : Held m) (K : Keeps ms) where
   fits : (i : ℕ) → SideFits (get_or (after ms) i free_row).bids × SideFits (get_or (after ms) i free_row).asks
   fits i = subst (λ (rows : List Row). SideFits (get_or rows i free_row).bids × SideFits (get_or rows i free_row).asks) K.rows (rows_fit f.heads f.cells i)
 
-  storable : Storable (change_flat f m).row
+  change_fits : ChangeFits (change_flat f m)
   unfolding change_of
-  storable =
+  change_fits =
       let fit = fits (place_of m.code (after ms)) in
-      subst (λ (c : Change). Storable c.row) (sym (change-is m ms K)) (change-storable _ _ _ fit.0 fit.1 _ m held)
+      subst ChangeFits (sym (change-is m ms K)) (change-fits _ _ _ fit.0 fit.1 _ m held)
 
   keeps-next : Keeps (m ∷ ms)
   unfolding taken_flat
   keeps-next =
-      let c = change_flat f m in
-      record {
-        all = rw K.all (stored-whole f c.at c.row K.all);
-        rows = rw K.all (stored-rows f c.at c.row (whole_long f K.all) storable ∙ ap₂ changed K.rows (change-is m ms K));
-      }
+      let both = stored-change f (change_flat f m) K.all change_fits in
+      record { all = both.0; rows = both.1 ∙ ap₂ changed K.rows (change-is m ms K) }
 
 pub flat-series : (ms : List Quote) → AllOf Held ms → Keeps ms
 flat-series [] h = clear-keeps
@@ -218,7 +220,7 @@ flat-series (m ∷ ms) h = keeps-next m ms h.0 (flat-series ms h.1)
 
 -- ---- and every call answers what the messages say
 pub flat-answers : (m : Quote) (ms : List Quote) → Keeps ms → taken_answer (after_flat ms) m ≡ answer_to ms m
-flat-answers m ms K = ap (λ (c : Change). c.answer) (change-is m ms K)
+flat-answers m ms K = ap answer_of (change-is m ms K)
 
 pub flat-tells : (ms : List Quote) → AllOf Held ms → KeptTells ms
 unfolding asked_flat row_at_flat in_use_flat

@@ -7,7 +7,7 @@ use Rattle.stock_quotes.specs.Reveal.{revealed}
 use Rattle.stock_quotes.specs.declared.Levels.{Levels}
 use Rattle.stock_quotes.specs.declared.Levels.TheVariants.{Shown, NotShown}
 use Rattle.stock_quotes.specs.declared.Quote.{Quote}
-use Rattle.stock_board.specs.declared.LastTrade.TheVariants.{At}
+use Rattle.std.specs.Prelude.{Some}
 use Rattle.stock_board.specs.declared.Row.{Row}
 use Rattle.stock_board.specs.Rows.{side, side_after, row_after}
 use Rattle.stock_board.specs.Board.{same_code}
@@ -34,7 +34,7 @@ next-parts row m ms p = record {
     asks-next Shown e = refl
     asks-next NotShown e = e
 
-    trade-next : (t : Bool) → row.trade ≡ latest_trade (trading ms) → cond t row.trade (At m.trade) ≡ latest_trade (cond t (trading ms) (m ∷ trading ms))
+    trade-next : (t : Bool) → row.trade ≡ latest_trade (trading ms) → cond t row.trade (Some m.trade) ≡ latest_trade (cond t (trading ms) (m ∷ trading ms))
     trade-next true e = e
     trade-next false e = refl
 

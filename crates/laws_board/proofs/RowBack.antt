@@ -16,8 +16,8 @@ use Rattle.stock_quotes.proofs.QuoteLaws.{of-six}
 use Rattle.stock_quotes_numbers.specs.Numbers.{quote_bytes, quote_amounts, quote_from}
 use Rattle.stock_quotes_numbers.proofs.NumberLaws.{length-amounts, quote-before}
 use Rattle.stock_board.specs.Rows.{free_row, side, last_trade, row_after}
-use Rattle.stock_board.specs.declared.LastTrade.{LastTrade}
-use Rattle.stock_board.specs.declared.LastTrade.TheVariants.{NoneYet, At}
+use Rattle.std.specs.Prelude.{Option, Some, None}
+use Rattle.amounts.specs.declared.Pair.{Pair}
 use Rattle.stock_board.specs.declared.Side.{Side}
 use Rattle.stock_board.specs.declared.Row.{Row}
 use Rattle.stock_board_flat.specs.Flat.{number_of, head_of, marks_of, pair_of, trade_bit, shown_of, kept_of, half, cells_of, shown_in, time_in, quote_in, row_from}
@@ -87,9 +87,9 @@ module _ (q : Quote) (s : ShapedQuote q) where
       ∙ quote-before q s behind (said ∙ sym shown)
 
 -- ---- and the row that the quote leaves of a free one is the row
-trade-back : (t : LastTrade) (low : ℕ) → low < 128 → last_trade NoneYet (pair_of t) (128 * trade_bit t + low) ≡ t
-trade-back NoneYet low h = let z : (128 * 0 + low) / 128 % 2 ≡ 0 = omega arith in rw (eq-eqb ((128 * 0 + low) / 128 % 2) 0 z)
-trade-back (At p) low h =
+trade-back : (t : Option Pair) (low : ℕ) → low < 128 → last_trade None (pair_of t) (128 * trade_bit t + low) ≡ t
+trade-back None low h = let z : (128 * 0 + low) / 128 % 2 ≡ 0 = omega arith in rw (eq-eqb ((128 * 0 + low) / 128 % 2) 0 z)
+trade-back (Some p) low h =
     let z : (128 * 1 + low) / 128 % 2 ≡ 1 = omega arith in
     rw (ne_eqb ((128 * 1 + low) / 128 % 2) 0 (λ e. absurd (omega (arith, z, e))))
 
@@ -99,9 +99,9 @@ bids-back t b a h k = omega arith
 asks_back : (t b a : ℕ) → t ≤ 1 → a < 8 → (128 * t + (16 * (b % 8) + 2 * (a % 8))) / 2 % 8 ≡ a
 asks_back t b a h k = omega arith
 
-bit-small : (t : LastTrade) → trade_bit t ≤ 1
-bit-small NoneYet = omega arith
-bit-small (At p) = omega arith
+bit-small : (t : Option Pair) → trade_bit t ≤ 1
+bit-small None = omega arith
+bit-small (Some p) = omega arith
 
 pub kept_back : (row : Row) → Storable row → row_after free_row (kept_of row) ≡ row
 unfolding row_after kept_of

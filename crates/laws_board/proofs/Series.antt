@@ -6,7 +6,6 @@ use mathlib.Core.Bool.{Bool, true, false, cond, not, ◌&&◌, ◌||◌}
 use mathlib.Core.List.{List, [], ◌∷◌, ◌++◌, map}
 use native.Mathlib.Omega.{arith}
 use lib.ListN.{length, get_or, set, take, replicate, length-append, length-map, length-replicate}
-use lib.Seq.{set_out}
 use lib.Dec.{leb, ltb}
 use borrow.Author.Tests.{ltb-true, ltb-false, leb-true, lt-ltb, le-ltb, ne_eqb}
 use Rattle.digits.proofs.Bools.{and_left, and_right, no_false}
@@ -16,11 +15,10 @@ use Rattle.stock_frame.proofs.CodecLaws.{legal-ruled}
 use Rattle.stock_quotes.specs.Quotes.{six_codec}
 use Rattle.stock_quotes.specs.declared.Quote.{Quote}
 use Rattle.stock_board.specs.Rows.{free_code, free_row, row_after}
-use Rattle.stock_board.specs.Board.{same_code, place_of, free_place, last_of_day, unchanged, change_of, changed}
+use Rattle.stock_board.specs.Board.{same_code, place_of, free_place, last_of_day, Changes, change_of, answer_of, changed}
 use Rattle.stock_board.specs.declared.Row.{Row}
-use Rattle.stock_board.specs.declared.Change.{Change}
-use Rattle.stock_board.specs.declared.BoardAnswer.{BoardAnswer}
-use Rattle.stock_board.specs.declared.BoardAnswer.TheVariants.{Done, Refused}
+use Rattle.std.specs.Prelude.{None, Ok, Err}
+use Rattle.stock_board.specs.declared.BoardError.TheVariants.{NotWritable, Full}
 use Rattle.stock_board.proofs.ChangeLaws.{change-illegal, change-last, change-own, change-free, change-full}
 use Rattle.laws_board.specs.History.{Code, counts, among, listed, taken, said, answer_by, board_of, after, answer_to}
 use Rattle.laws_board.proofs.CodeLaws.{same_refl, same-eq, same-sym, among-end, or_left, or_right, place_in, Distinct, Coded, Stocks}
@@ -91,13 +89,13 @@ module _ (m : Quote) (ms : List Quote) (S : State ms) where
   long = simp (length-append, length-map, length-replicate) (omega (arith, S.few))
 
   -- the board and the answer behind a change
-  behind : (c : Change) → c ≡ change_of R m → (after (m ∷ ms) ≡ changed R c) × (answer_to ms m ≡ c.answer)
+  behind : (c : Changes) → c ≡ change_of R m → (after (m ∷ ms) ≡ changed R c) × (answer_to ms m ≡ answer_of c)
   behind c e =
       let d : change_of (after ms) m ≡ c = ap (λ (l : List Row). change_of l m) S.board ∙ sym e in
-      (ap₂ changed S.board d, ap (λ (b : Change). b.answer) d)
+      (ap₂ changed S.board d, ap answer_of d)
 
-  stays : (a : BoardAnswer) → unchanged (length R) a ≡ change_of R m → (after (m ∷ ms) ≡ after ms) × (answer_to ms m ≡ a)
-  stays a e = let b = behind _ e in (b.0 ∙ set_out R (length R) free_row (omega arith) ∙ sym S.board, b.1)
+  stays : (c : Changes) → changed R c ≡ R → c ≡ change_of R m → (after (m ∷ ms) ≡ after ms) × (answer_to ms m ≡ answer_of c)
+  stays c same e = let b = behind c e in (b.0 ∙ same ∙ sym S.board, b.1)
 
   -- a message that is not taken changes nothing
   same-state : listed (m ∷ ms) ≡ cs → taken ms m ≡ false → after (m ∷ ms) ≡ after ms → State (m ∷ ms)
@@ -148,8 +146,8 @@ module _ (m : Quote) (ms : List Quote) (S : State ms) where
     no_change = go (legal six_codec m) refl (last_of_day m) refl
       where
         go : (t : Bool) → legal six_codec m ≡ t → (u : Bool) → last_of_day m ≡ u → (after (m ∷ ms) ≡ after ms) × (answer_to ms m ≡ answer_by ms m)
-        go false p u q = let s = stays (Refused 14) (change-illegal _ _ _ _ m long p) in (s.0, s.1 ∙ rw p)
-        go true p true q = let s = stays Done (change-last _ _ _ _ m long p q) in (s.0, s.1 ∙ rw (p, q))
+        go false p u q = let s = stays (Err NotWritable) refl (change-illegal _ _ _ _ m long p) in (s.0, s.1 ∙ rw p)
+        go true p true q = let s = stays (Ok None) refl (change-last _ _ _ _ m long p q) in (s.0, s.1 ∙ rw (p, q))
         go true p false q = absurd (no_false (sym no ∙ ap₂ (λ (t u : Bool). t && not u) p q))
 
   module _ (yes : counts m ≡ true) where
@@ -174,7 +172,7 @@ module _ (m : Quote) (ms : List Quote) (S : State ms) where
     taken_is : taken ms m ≡ among x (listed (m ∷ ms))
     taken_is = ap (λ (t : Bool). t && among x (listed (m ∷ ms))) yes
 
-    answer-is : (t : Bool) → taken ms m ≡ t → cond t Done (Refused 52) ≡ answer_by ms m
+    answer-is : (t : Bool) → taken ms m ≡ t → cond t (Ok tt) (Err Full) ≡ answer_by ms m
     answer-is t e = sym (rw (right, stock, e))
 
     place_is : place_of x R ≡ cond (among x cs) (place_in x cs) (length cs + k)
@@ -278,7 +276,7 @@ module _ (m : Quote) (ms : List Quote) (S : State ms) where
         full-change : (after (m ∷ ms) ≡ after ms) × (answer_to ms m ≡ answer_by ms m)
         unfolding change_of
         full-change =
-            let s = stays (Refused 52) (change-full (length R) (place_of x R) (get_or R (place_of x R) free_row) (free_place R) m long right stock (omega (arith, new-place)) (omega (arith, free-is))) in
+            let s = stays (Err Full) refl (change-full (length R) (place_of x R) (get_or R (place_of x R) free_row) (free_place R) m long right stock (omega (arith, new-place)) (omega (arith, free-is))) in
             (s.0, s.1 ∙ answer-is false full-taken)
 
   -- ---- one message more

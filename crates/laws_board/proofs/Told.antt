@@ -13,8 +13,7 @@ use Rattle.stock_quotes.specs.declared.Quote.{Quote}
 use Rattle.stock_board.specs.Rows.{free_code, free_row}
 use Rattle.stock_board.specs.Board.{same_code, is_free, place_of, stock_code, asked_of, row_at_of, in_use_of}
 use Rattle.stock_board.specs.declared.Row.{Row}
-use Rattle.stock_board.specs.declared.InUse.{InUse}
-use Rattle.stock_board.specs.declared.BoardAnswer.TheVariants.{Done}
+use Rattle.std.specs.Prelude.{Ok}
 use Rattle.laws_board.specs.History.{Code, among, listed, said, found, missing, Tells}
 use Rattle.laws_board.proofs.CodeLaws.{place_in, Coded, Stocks}
 use Rattle.laws_board.proofs.ListedLaws.{rows, place-mapped, place-below, get-mapped, used-mapped}
@@ -68,7 +67,7 @@ module _ (ms : List Quote) where
       place = place-mapped code f cs k S.coded (right-code code (and_left (code_right code) (not (zero_code code)) e))
 
       go : (t : Bool) → among code cs ≡ t
-          → cond (ltb (place_of code R) 256) (record { answer = Done; row = get_or R (place_of code R) free_row }) missing ≡ cond t (found (f code)) missing
+          → cond (ltb (place_of code R) 256) (Ok (get_or R (place_of code R) free_row)) missing ≡ cond t (found (f code)) missing
       go true p =
           let here : place_of code R ≡ place_in code cs = place ∙ ap (λ (t : Bool). cond t (place_in code cs) (length cs + k)) p in
           rw (lt-ltb (place_of code R) 256 (omega (arith, here, place-below code cs p, S.few))) (ap found (ap (λ (n : ℕ). get_or R n free_row) here ∙ get-mapped code f cs (replicate k free_row) free_row p))
@@ -76,10 +75,10 @@ module _ (ms : List Quote) where
           let gone : place_of code R ≡ length cs + k = place ∙ ap (λ (t : Bool). cond t (place_in code cs) (length cs + k)) p in
           rw (le-ltb (place_of code R) 256 (omega (arith, gone, S.few)))
 
-  used-told : in_use_of R ≡ InUse.Rows (length cs)
+  used-told : in_use_of R ≡ Ok (length cs)
   used-told = rw (eq-eqb (length R) 256 full, used-mapped f cs k S.coded S.stocks)
 
-  no_row : (t : Bool) → cond (t && false) (record { answer = Done; row = free_row }) missing ≡ missing
+  no_row : (t : Bool) → cond (t && false) (Ok free_row) missing ≡ missing
   no_row true = refl
   no_row false = refl
 
@@ -88,14 +87,14 @@ module _ (ms : List Quote) where
   row_told at = rw (eq-eqb (length R) 256 full) (go (ltb at (length cs)) refl)
     where
       go : (t : Bool) → ltb at (length cs) ≡ t
-          → cond (ltb at 256 && not (is_free (get_or R at free_row))) (record { answer = Done; row = get_or R at free_row }) missing ≡ cond t (found (f (get_or cs at []))) missing
+          → cond (ltb at 256 && not (is_free (get_or R at free_row))) (Ok (get_or R at free_row)) missing ≡ cond t (found (f (get_or cs at []))) missing
       go true p =
           let h = ltb-true at (length cs) p in
           let row : get_or R at free_row ≡ f (get_or cs at []) = get_at f cs (replicate k free_row) at free_row h in
           rw (lt-ltb at 256 (omega (arith, h, S.few)), row, used-at f cs at S.coded S.stocks h)
       go false p =
           let row : get_or R at free_row ≡ free_row = get-behind f cs k at (ltb-false at (length cs) p) in
-          ap (λ (r : Row). cond (ltb at 256 && not (is_free r)) (record { answer = Done; row = r }) missing) row ∙ no_row (ltb at 256)
+          ap (λ (r : Row). cond (ltb at 256 && not (is_free r)) (Ok r) missing) row ∙ no_row (ltb at 256)
 
 -- the theorem
 pub series-tells : (ms : List Quote) → Tells ms

@@ -1,10 +1,9 @@
 -- What a stock's row says, part by part, of its own messages that were taken.
-use Rattle.std.specs.Prelude.{◌≡◌, Bool, true, false, cond, ◌&&◌, List, [], ◌∷◌, eqb}
+use Rattle.std.specs.Prelude.{◌≡◌, Bool, true, false, cond, ◌&&◌, List, [], ◌∷◌, eqb, Option, Some, None}
+use Rattle.amounts.specs.declared.Pair.{Pair}
 use Rattle.stock_quotes.specs.Reveal.{revealed}
 use Rattle.stock_quotes.specs.declared.Levels.{Levels}
 use Rattle.stock_quotes.specs.declared.Quote.{Quote}
-use Rattle.stock_board.specs.declared.LastTrade.{LastTrade}
-use Rattle.stock_board.specs.declared.LastTrade.TheVariants.{NoneYet, At}
 use Rattle.stock_board.specs.declared.Row.{Row}
 use Rattle.stock_board.specs.declared.Side.{Side}
 use Rattle.stock_board.specs.Rows.{side, free_row}
@@ -38,9 +37,9 @@ abbrev pub latest_asks : List Quote → Side
 latest_asks [] = free_row.asks
 latest_asks (m ∷ ms) = side (revealed m.reveal).asks m.asks
 
-abbrev pub latest_trade : List Quote → LastTrade
-latest_trade [] = NoneYet
-latest_trade (m ∷ ms) = At m.trade
+abbrev pub latest_trade : List Quote → Option Pair
+latest_trade [] = None
+latest_trade (m ∷ ms) = Some m.trade
 
 -- time, limit, status and total are the latest message's
 abbrev pub Latest : Row → List Quote → Type 0

@@ -1,4 +1,5 @@
 -- The promise over one append to any capture in which no block is bad, cut short after any number of stores.
+use Rattle.std.specs.Prelude.{Result, Ok, Err}
 use Prim.Native.Nat.{ℕ, ◌+◌, ◌<◌, ◌≤◌, min}
 use mathlib.Core.Path.{◌≡◌, refl, sym, ap, ◌∙◌}
 use mathlib.Core.Bool.{Bool, true, false, cond, not, ◌&&◌}
@@ -11,17 +12,16 @@ use Rattle.capture.specs.Blocks.{block_of}
 use Rattle.capture.specs.Captures.{start_of, block_at, first_bad, found}
 use Rattle.capture_append.specs.Stores.{stored_from}
 use Rattle.capture_append.specs.Appending.{misfit, taken_of, bytes_at, taken_bytes}
-use Rattle.capture_append.specs.declared.Taken.{Taken}
+use Rattle.capture_append.specs.declared.AppendError.{AppendError}
 use Rattle.laws_capture.specs.Series.{Attempt, kept_with, answer_by}
 use Rattle.laws_capture.specs.Cuts.{Bytes, CutTells}
 use Rattle.laws_capture.proofs.HoldLaws.{Holds, holds-good, holds-found, holds-taken, whole-block, append-holds}
 use Rattle.laws_capture.proofs.GoodLaws.{good-holds}
 
 -- the place in an answer
-abbrev pub place_of : Taken → ℕ
-place_of (Taken.At p) = p
-place_of (Taken.Refused n) = 0
-place_of (Taken.Bad p) = 0
+abbrev pub place_of : Result ℕ AppendError → ℕ
+place_of (Ok p) = p
+place_of (Err e) = 0
 
 and_none : (a b : Bool) → (a && (b && false)) ≡ false
 and_none true true = refl
@@ -42,12 +42,12 @@ module _ (m : List ℕ) (ps : List (List ℕ)) (h : Holds m ps) (x : List ℕ) (
       ∙ sym (holds-taken m ps h y)
 
   -- an append that was finished is the block of its payload
-  block-is : 512 ≤ k → (p : ℕ) → taken_of m x ≡ Taken.At p → block_at (taken_bytes m x k) p ≡ block_of p x
+  block-is : 512 ≤ k → (p : ℕ) → taken_of m x ≡ Ok p → block_at (taken_bytes m x k) p ≡ block_of p x
   unfolding taken_bytes
   block-is all p is =
-      ap (λ (t : Taken). block_at (bytes_at t m x k) p) is ∙ go (misfit x) (ltb (length ps) 128) refl refl (sym (holds-taken m ps h x) ∙ is)
+      ap (λ (t : Result ℕ AppendError). block_at (bytes_at t m x k) p) is ∙ go (misfit x) (ltb (length ps) 128) refl refl (sym (holds-taken m ps h x) ∙ is)
     where
-      go : (s u : Bool) → misfit x ≡ s → ltb (length ps) 128 ≡ u → cond s (Taken.Refused 31) (cond u (Taken.At (length ps + 1)) (Taken.Refused 32)) ≡ Taken.At p
+      go : (s u : Bool) → misfit x ≡ s → ltb (length ps) 128 ≡ u → cond s (Err AppendError.PayloadLength) (cond u (Ok (length ps + 1)) (Err AppendError.Full)) ≡ Ok p
           → block_at (stored_from m (start_of p) (block_of p x) (min k 512)) p ≡ block_of p x
       go true u a b e = let y : ◌≡◌ {A = ℕ} 0 1 = cc in absurd (omega (arith, y))
       go false false a b e = let y : ◌≡◌ {A = ℕ} 0 1 = cc in absurd (omega (arith, y))

@@ -1,9 +1,11 @@
 -- 33 exactly: it is answered with the first bad block's place; captures that show the same are answered the same; and a capture has no bad
 -- block exactly if a series leaves one that shows the same.
+use Rattle.std.specs.Prelude.{Result, Ok, Err}
 use Prim.Native.Nat.{ℕ, zero, suc, ◌+◌, ◌-◌, ◌<◌, ◌≤◌}
 use mathlib.Core.Path.{◌≡◌, refl, sym, ap, ap₂, subst, ◌∙◌}
 use mathlib.Core.Bool.{Bool, true, false, cond, not, ◌&&◌, ◌||◌}
 use mathlib.Core.List.{List, [], ◌∷◌}
+use mathlib.Core.Logic.{◌⊎◌, inl, inr}
 use native.Mathlib.Omega.{arith}
 use borrow.Author.Tests.{eq-eqb, ne_eqb, lt-ltb, eqb-true, eqb-false, leb-true, leb-false}
 use lib.ListN.{length, get_or, take}
@@ -11,12 +13,12 @@ use lib.Seq.{length-take-le, take-suc, take-length}
 use lib.Dec.{eqb, leb, ltb}
 use Rattle.capture.specs.Blocks.{number, used, payload, unfinished, intact}
 use Rattle.capture.specs.Captures.{whole, start_of, block_at, unfinished_at, numbered, follows, bad, first_from, first_bad, first_unfinished, found_from, found}
-use Rattle.capture.specs.Calls.{held_of, is_finished, part_of}
-use Rattle.capture.specs.declared.Held.{Held}
+use Rattle.capture.specs.Calls.{held_of, is_finished, part_from, part_of}
+use Rattle.capture.specs.declared.Unsound.{Unsound}
 use Rattle.capture.specs.declared.Part.{Part}
-use Rattle.capture.proofs.CallLaws.{bad-says}
+use Rattle.capture.proofs.CallLaws.{refused-says}
 use Rattle.capture_append.specs.Appending.{misfit, taken_of}
-use Rattle.capture_append.specs.declared.Taken.{Taken}
+use Rattle.capture_append.specs.declared.AppendError.{AppendError}
 use Rattle.laws_capture.specs.Series.{Attempt, kept, kept_with, after}
 use Rattle.laws_capture.specs.Cuts.{Bytes}
 use Rattle.laws_capture.specs.Exact.{FirstBadAt, shown, Alike, Left, TornAt, SameTold}
@@ -24,16 +26,20 @@ use Rattle.laws_capture.proofs.HoldLaws.{Holds, holds-good}
 use Rattle.laws_capture.proofs.GoodLaws.{good-holds}
 use Rattle.laws_capture.proofs.SeriesTells.{series-holds}
 
--- the place in an answer of 33
-abbrev taken_place : Taken → ℕ
-taken_place (Taken.At p) = 0
-taken_place (Taken.Refused n) = 0
-taken_place (Taken.Bad p) = p
+-- the place in a refusal with 33
+abbrev unsound_place : Unsound → ℕ
+unsound_place Unsound.WrongSize = 0
+unsound_place (Unsound.BadBlock p) = p
 
-abbrev part_place : Part → ℕ
-part_place (Part.Bytes start n) = 0
-part_place (Part.Refused n) = 0
-part_place (Part.Bad p) = p
+abbrev taken_place : Result ℕ AppendError → ℕ
+taken_place (Ok p) = 0
+taken_place (Err (AppendError.Unsound u)) = unsound_place u
+taken_place (Err AppendError.PayloadLength) = 0
+taken_place (Err AppendError.Full) = 0
+
+abbrev part_place : Result Part Unsound → ℕ
+part_place (Ok part) = 0
+part_place (Err u) = unsound_place u
 
 -- ---- the first place at which a test holds
 module _ (test : ℕ → Bool) where
@@ -88,15 +94,20 @@ unfolding first_bad
 first-is-bad m p f = first-is (bad m) 128 1 p f.from (omega (arith, f.to)) f.is-bad f.none_before
 
 -- 33 with a place is answered only where that place is the first bad one: of each call that answers it
-pub bad-first : (m : List ℕ) (p : ℕ) → Held.Bad p ≡ held_of m → FirstBadAt m p
-bad-first m p is = let says = bad-says m p is in first_said m p says.0 says.1
+pub bad-first : (m : List ℕ) (p : ℕ) → Err (Unsound.BadBlock p) ≡ held_of m → FirstBadAt m p
+bad-first m p is = go (refused-says m (Unsound.BadBlock p) is)
+  where
+    go : ((whole m ≡ false) × (Unsound.BadBlock p ≡ Unsound.WrongSize)) ⊎ ((eqb (first_bad m) 0 ≡ false) × (Unsound.BadBlock p ≡ Unsound.BadBlock (first_bad m)))
+        → FirstBadAt m p
+    go (inl small) = let z = small.1 in let y : ◌≡◌ {A = ℕ} 0 1 = cc in absurd (omega (arith, y))
+    go (inr bad) = first_said m p (ap unsound_place bad.1) bad.0
 
-pub append-bad-first : (m x : List ℕ) (p : ℕ) → Taken.Bad p ≡ taken_of m x → FirstBadAt m p
+pub append-bad-first : (m x : List ℕ) (p : ℕ) → Err (AppendError.Unsound (Unsound.BadBlock p)) ≡ taken_of m x → FirstBadAt m p
 unfolding taken_of
 append-bad-first m x p is = go (whole m) (misfit x) (eqb (first_bad m) 0) (eqb (first_unfinished m) 0) refl is
   where
     go : (w s g u : Bool) → eqb (first_bad m) 0 ≡ g
-        → Taken.Bad p ≡ cond (not w) (Taken.Refused 34) (cond s (Taken.Refused 31) (cond (not g) (Taken.Bad (first_bad m)) (cond u (Taken.Refused 32) (Taken.At (first_unfinished m)))))
+        → Err (AppendError.Unsound (Unsound.BadBlock p)) ≡ cond (not w) (Err (AppendError.Unsound Unsound.WrongSize)) (cond s (Err AppendError.PayloadLength) (cond (not g) (Err (AppendError.Unsound (Unsound.BadBlock (first_bad m)))) (cond u (Err AppendError.Full) (Ok (first_unfinished m)))))
         → FirstBadAt m p
     go false s g u b e = let y : ◌≡◌ {A = ℕ} 0 1 = cc in absurd (omega (arith, y))
     go true true g u b e = let y : ◌≡◌ {A = ℕ} 0 1 = cc in absurd (omega (arith, y))
@@ -104,12 +115,12 @@ append-bad-first m x p is = go (whole m) (misfit x) (eqb (first_bad m) 0) (eqb (
     go true false true false b e = let y : ◌≡◌ {A = ℕ} 0 1 = cc in absurd (omega (arith, y))
     go true false false u b e = first_said m p (ap taken_place e) b
 
-pub payload-bad-first : (m : List ℕ) (p q : ℕ) → Part.Bad p ≡ part_of m q → FirstBadAt m p
+pub payload-bad-first : (m : List ℕ) (p q : ℕ) → Err (Unsound.BadBlock p) ≡ part_of m q → FirstBadAt m p
 unfolding part_of
 payload-bad-first m p q is = go (whole m) (eqb (first_bad m) 0) (is_finished m q) refl is
   where
     go : (w g f : Bool) → eqb (first_bad m) 0 ≡ g
-        → Part.Bad p ≡ cond (not w) (Part.Refused 34) (cond (not g) (Part.Bad (first_bad m)) (cond f (Part.Bytes (start_of q + 6) (used (block_at m q))) (Part.Bytes 0 0)))
+        → Err (Unsound.BadBlock p) ≡ cond (not w) (Err Unsound.WrongSize) (cond (not g) (Err (Unsound.BadBlock (first_bad m))) (Ok (cond f (part_from (start_of q + 6) (used (block_at m q))) (part_from 0 0))))
         → FirstBadAt m p
     go false g f b e = let y : ◌≡◌ {A = ℕ} 0 1 = cc in absurd (omega (arith, y))
     go true true true b e = let y : ◌≡◌ {A = ℕ} 0 1 = cc in absurd (omega (arith, y))
@@ -117,16 +128,16 @@ payload-bad-first m p q is = go (whole m) (eqb (first_bad m) 0) (is_finished m q
     go true false f b e = first_said m p (ap part_place e) b
 
 -- and there always: by an append of a payload that fits, and by reading any place
-pub first-bad : (m : List ℕ) (p : ℕ) → length m ≡ 65536 → FirstBadAt m p → held_of m ≡ Held.Bad p
+pub first-bad : (m : List ℕ) (p : ℕ) → length m ≡ 65536 → FirstBadAt m p → held_of m ≡ Err (Unsound.BadBlock p)
 unfolding held_of
 first-bad m p long f = rw (eq-eqb (length m) 65536 long, first-is-bad m p f, ne_eqb p 0 (λ z. omega (arith, z, f.from))) refl
 
-pub first-bad-append : (m x : List ℕ) (p : ℕ) → length m ≡ 65536 → misfit x ≡ false → FirstBadAt m p → taken_of m x ≡ Taken.Bad p
+pub first-bad-append : (m x : List ℕ) (p : ℕ) → length m ≡ 65536 → misfit x ≡ false → FirstBadAt m p → taken_of m x ≡ Err (AppendError.Unsound (Unsound.BadBlock p))
 unfolding taken_of
 first-bad-append m x p long fits f =
     rw (eq-eqb (length m) 65536 long, fits, first-is-bad m p f, ne_eqb p 0 (λ z. omega (arith, z, f.from))) refl
 
-pub first-bad-payload : (m : List ℕ) (p q : ℕ) → length m ≡ 65536 → FirstBadAt m p → part_of m q ≡ Part.Bad p
+pub first-bad-payload : (m : List ℕ) (p q : ℕ) → length m ≡ 65536 → FirstBadAt m p → part_of m q ≡ Err (Unsound.BadBlock p)
 unfolding part_of
 first-bad-payload m p q long f = rw (eq-eqb (length m) 65536 long, first-is-bad m p f, ne_eqb p 0 (λ z. omega (arith, z, f.from))) refl
 
@@ -198,14 +209,14 @@ module _ (m n : List ℕ) (alike : Alike m n) where
   found-same = found-from-same 128 1 (omega arith) (omega arith)
 
   -- a part is the same where it is there in one of them
-  finished-part-same : (p : ℕ) → cond (is_finished m p) (Part.Bytes (start_of p + 6) (used (block_at m p))) (Part.Bytes 0 0)
-      ≡ cond (is_finished n p) (Part.Bytes (start_of p + 6) (used (block_at n p))) (Part.Bytes 0 0)
+  finished-part-same : (p : ℕ) → cond (is_finished m p) (part_from (start_of p + 6) (used (block_at m p))) (part_from 0 0)
+      ≡ cond (is_finished n p) (part_from (start_of p + 6) (used (block_at n p))) (part_from 0 0)
   unfolding is_finished
   finished-part-same p = go (leb 1 p) (leb p 128) refl refl
     where
       go : (s u : Bool) → leb 1 p ≡ s → leb p 128 ≡ u
-          → cond (s && (u && numbered m p)) (Part.Bytes (start_of p + 6) (used (block_at m p))) (Part.Bytes 0 0)
-          ≡ cond (s && (u && numbered n p)) (Part.Bytes (start_of p + 6) (used (block_at n p))) (Part.Bytes 0 0)
+          → cond (s && (u && numbered m p)) (part_from (start_of p + 6) (used (block_at m p))) (part_from 0 0)
+          ≡ cond (s && (u && numbered n p)) (part_from (start_of p + 6) (used (block_at n p))) (part_from 0 0)
       go true true a b = there (unfinished_at m p) refl
         where
           f : 1 ≤ p
@@ -215,10 +226,10 @@ module _ (m n : List ℕ) (alike : Alike m n) where
           t = leb-true p 128 b
 
           there : (v : Bool) → unfinished_at m p ≡ v
-              → cond (numbered m p) (Part.Bytes (start_of p + 6) (used (block_at m p))) (Part.Bytes 0 0)
-              ≡ cond (numbered n p) (Part.Bytes (start_of p + 6) (used (block_at n p))) (Part.Bytes 0 0)
+              → cond (numbered m p) (part_from (start_of p + 6) (used (block_at m p))) (part_from 0 0)
+              ≡ cond (numbered n p) (part_from (start_of p + 6) (used (block_at n p))) (part_from 0 0)
           there true e = rw (e, sym (open-same p f t) ∙ e) refl
-          there false e = rw (e, sym (open-same p f t) ∙ e) (ap (λ (b : List ℕ). Part.Bytes (start_of p + 6) (used b)) (block_same p f t e))
+          there false e = rw (e, sym (open-same p f t) ∙ e) (ap (λ (b : List ℕ). part_from (start_of p + 6) (used b)) (block_same p f t e))
       go true false a b = refl
       go false u a b = refl
 
@@ -233,9 +244,9 @@ module _ (m n : List ℕ) (alike : Alike m n) where
   }
     where
       parts : (p : ℕ) (s : Bool)
-          → cond (not s) (Part.Bad (first_bad n)) (cond (is_finished m p) (Part.Bytes (start_of p + 6) (used (block_at m p))) (Part.Bytes 0 0))
-          ≡ cond (not s) (Part.Bad (first_bad n)) (cond (is_finished n p) (Part.Bytes (start_of p + 6) (used (block_at n p))) (Part.Bytes 0 0))
-      parts p true = finished-part-same p
+          → cond (not s) (Err (Unsound.BadBlock (first_bad n))) (Ok (cond (is_finished m p) (part_from (start_of p + 6) (used (block_at m p))) (part_from 0 0)))
+          ≡ cond (not s) (Err (Unsound.BadBlock (first_bad n))) (Ok (cond (is_finished n p) (part_from (start_of p + 6) (used (block_at n p))) (part_from 0 0)))
+      parts p true = ap Ok (finished-part-same p)
       parts p false = refl
 
 -- a torn block changes nothing, however it was torn
@@ -297,11 +308,11 @@ left-by-none m long bytes none = go (eqb (first_bad m) 0) refl
     go false e = first_said m (first_bad m) refl e
 
 -- and is answered 33 by each call
-pub not_left : (m : List ℕ) → length m ≡ 65536 → Bytes m → (Left m → ⊥) → held_of m ≡ Held.Bad (first_bad m)
+pub not_left : (m : List ℕ) → length m ≡ 65536 → Bytes m → (Left m → ⊥) → held_of m ≡ Err (Unsound.BadBlock (first_bad m))
 not_left m long bytes none = first-bad m (first_bad m) long (left-by-none m long bytes none)
 
-pub not-left-append : (m x : List ℕ) → length m ≡ 65536 → Bytes m → misfit x ≡ false → (Left m → ⊥) → taken_of m x ≡ Taken.Bad (first_bad m)
+pub not-left-append : (m x : List ℕ) → length m ≡ 65536 → Bytes m → misfit x ≡ false → (Left m → ⊥) → taken_of m x ≡ Err (AppendError.Unsound (Unsound.BadBlock (first_bad m)))
 not-left-append m x long bytes fits none = first-bad-append m x (first_bad m) long fits (left-by-none m long bytes none)
 
-pub not-left-payload : (m : List ℕ) (p : ℕ) → length m ≡ 65536 → Bytes m → (Left m → ⊥) → part_of m p ≡ Part.Bad (first_bad m)
+pub not-left-payload : (m : List ℕ) (p : ℕ) → length m ≡ 65536 → Bytes m → (Left m → ⊥) → part_of m p ≡ Err (Unsound.BadBlock (first_bad m))
 not-left-payload m p long bytes none = first-bad-payload m (first_bad m) p long (left-by-none m long bytes none)

@@ -1,5 +1,6 @@
 -- A capture that holds some payloads: their blocks stand first, each at its place, and no other block is finished. So it is told by the calls,
 -- and every append keeps it so.
+use Rattle.std.specs.Prelude.{Ok, Err}
 use Prim.Native.Nat.{ℕ, zero, suc, ◌+◌, ◌-◌, ◌<◌, ◌≤◌, min}
 use mathlib.Core.Path.{◌≡◌, refl, sym, ap, ap₂, ◌∙◌}
 use mathlib.Core.Bool.{Bool, true, false, cond, not, ◌&&◌}
@@ -15,7 +16,7 @@ use Rattle.capture.specs.Searches.{sound}
 use Rattle.capture.proofs.JudgeLaws.{sound-numbered, sound-good, unfinished-good, found-open}
 use Rattle.capture_append.specs.Stores.{stored_byte, stored_from}
 use Rattle.capture_append.specs.Appending.{misfit, taken_of, bytes_at, taken_bytes}
-use Rattle.capture_append.specs.declared.Taken.{Taken}
+use Rattle.capture_append.specs.declared.AppendError.{AppendError}
 use Rattle.laws_capture.specs.Series.{Attempt, kept_with, answer_by}
 use Rattle.laws_capture.proofs.BlockTrip.{fits-from, byte-0, byte-1, byte-2, length-block, payload-block, sound-block}
 use Rattle.laws_capture.proofs.TornLaws.{torn-all, torn-number, block-stored, block-other}
@@ -91,8 +92,8 @@ module _ (m : List ℕ) (ps : List (List ℕ)) (h : Holds m ps) where
       rw (eq-eqb (length m) 65536 h.long, holds-good, holds-open) (go (misfit x) (ltb (length ps) 128))
     where
       go : (s t : Bool)
-          → cond s (Taken.Refused 31) (cond (eqb (cond t (length ps + 1) 0) 0) (Taken.Refused 32) (Taken.At (cond t (length ps + 1) 0)))
-          ≡ cond s (Taken.Refused 31) (cond t (Taken.At (length ps + 1)) (Taken.Refused 32))
+          → cond s (Err AppendError.PayloadLength) (cond (eqb (cond t (length ps + 1) 0) 0) (Err AppendError.Full) (Ok (cond t (length ps + 1) 0)))
+          ≡ cond s (Err AppendError.PayloadLength) (cond t (Ok (length ps + 1)) (Err AppendError.Full))
       go true t = refl
       go false true = rw (ne_eqb (length ps + 1) 0 (λ z. omega (arith, z))) refl
       go false false = refl
@@ -199,7 +200,7 @@ append-holds m ps t h =
     rw (holds-taken m ps h t.payload) (go (misfit t.payload) (ltb (length ps) 128) (leb 512 t.done) refl refl refl)
   where
     go : (s u v : Bool) → misfit t.payload ≡ s → ltb (length ps) 128 ≡ u → leb 512 t.done ≡ v
-        → Holds (bytes_at (cond s (Taken.Refused 31) (cond u (Taken.At (length ps + 1)) (Taken.Refused 32))) m t.payload t.done)
+        → Holds (bytes_at (cond s (Err AppendError.PayloadLength) (cond u (Ok (length ps + 1)) (Err AppendError.Full))) m t.payload t.done)
         (cond (not s && (u && v)) (ps ++ (t.payload ∷ [])) ps)
     go true u v a b c = h
     go false false v a b c = h

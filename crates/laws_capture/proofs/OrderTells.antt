@@ -1,4 +1,6 @@
 -- The promise over the stores but the last in any order: they leave a torn block and nothing else, and change no answer.
+use Rattle.capture.specs.declared.Unsound.{Unsound}
+use Rattle.std.specs.Prelude.{Result, Ok, Err}
 use Prim.Native.Nat.{ℕ, ◌+◌, ◌<◌, ◌≤◌}
 use mathlib.Core.Path.{◌≡◌, refl, sym, ap, ◌∙◌}
 use mathlib.Core.Bool.{Bool, true, false, cond, not}
@@ -11,7 +13,7 @@ use Rattle.capture.specs.Blocks.{number, unfinished, block_of}
 use Rattle.capture.specs.Captures.{whole, start_of, block_at, unfinished_at, first_bad, first_unfinished}
 use Rattle.capture_append.specs.Stores.{stored_byte, store_of}
 use Rattle.capture_append.specs.Appending.{misfit, taken_of}
-use Rattle.capture_append.specs.declared.Taken.{Taken}
+use Rattle.capture_append.specs.declared.AppendError.{AppendError}
 use Rattle.laws_capture.specs.Exact.{TornAt, SameTold}
 use Rattle.laws_capture.specs.Orders.{before_last, stored_by, bytes_by, torn_bytes, OrderTells}
 use Rattle.laws_capture.proofs.BlockTrip.{fits-from, byte-0, byte-1, byte-2, both}
@@ -28,12 +30,12 @@ record Takes (m x : List ℕ) (q : ℕ) : Type 0 where
   to : q ≤ 128
   open-there : unfinished_at m q ≡ true
 
-taken-there : (m x : List ℕ) (q : ℕ) → taken_of m x ≡ Taken.At q → Takes m x q
+taken-there : (m x : List ℕ) (q : ℕ) → taken_of m x ≡ Ok q → Takes m x q
 unfolding taken_of first_unfinished
 taken-there m x q is = go (whole m) (misfit x) (eqb (first_bad m) 0) (eqb (first_unfinished m) 0) refl refl refl is
   where
     go : (w s g u : Bool) → whole m ≡ w → misfit x ≡ s → eqb (first_unfinished m) 0 ≡ u
-        → cond (not w) (Taken.Refused 34) (cond s (Taken.Refused 31) (cond (not g) (Taken.Bad (first_bad m)) (cond u (Taken.Refused 32) (Taken.At (first_unfinished m))))) ≡ Taken.At q
+        → cond (not w) (Err (AppendError.Unsound Unsound.WrongSize)) (cond s (Err AppendError.PayloadLength) (cond (not g) (Err (AppendError.Unsound (Unsound.BadBlock (first_bad m)))) (cond u (Err AppendError.Full) (Ok (first_unfinished m))))) ≡ Ok q
         → Takes m x q
     go false s g u a b c e = let y : ◌≡◌ {A = ℕ} 0 1 = cc in absurd (omega (arith, y))
     go true true g u a b c e = let y : ◌≡◌ {A = ℕ} 0 1 = cc in absurd (omega (arith, y))
@@ -78,16 +80,15 @@ pub order-tells : (m x js : List ℕ) → before_last js ≡ true → OrderTells
 unfolding torn_bytes
 order-tells m x js h = record { torn = torn-there; told = told-as (taken_of m x) refl }
   where
-    at_place : (q : ℕ) → taken_of m x ≡ Taken.At q → TornAt m (stored_by m (start_of q) (block_of q x) js) q
+    at_place : (q : ℕ) → taken_of m x ≡ Ok q → TornAt m (stored_by m (start_of q) (block_of q x) js) q
     at_place q is = stored-torn m x q (taken-there m x q is) js h
 
     same : SameTold m m
     same = record { bad-same = refl; found-same = refl; held_same = refl; taken-same = λ y. refl; part_same = λ p. refl }
 
-    torn-there : (q : ℕ) → taken_of m x ≡ Taken.At q → TornAt m (bytes_by (taken_of m x) m x js) q
+    torn-there : (q : ℕ) → taken_of m x ≡ Ok q → TornAt m (bytes_by (taken_of m x) m x js) q
     torn-there q is = rw is (at_place q is)
 
-    told-as : (a : Taken) → taken_of m x ≡ a → SameTold m (bytes_by a m x js)
-    told-as (Taken.At q) is = torn-told m (stored_by m (start_of q) (block_of q x) js) q (taken-there m x q is).long (at_place q is)
-    told-as (Taken.Refused n) is = same
-    told-as (Taken.Bad p) is = same
+    told-as : (a : Result ℕ AppendError) → taken_of m x ≡ a → SameTold m (bytes_by a m x js)
+    told-as (Ok q) is = torn-told m (stored_by m (start_of q) (block_of q x) js) q (taken-there m x q is).long (at_place q is)
+    told-as (Err e) is = same

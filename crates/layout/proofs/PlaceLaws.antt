@@ -1,4 +1,5 @@
 -- Laws of the first bad half, over any layout: none is told exactly where the digits are good, it is the lowest, and where it lies.
+use Rattle.std.specs.Prelude.{None, Option, Some}
 use Prim.Native.Nat.{ℕ, zero, suc, ◌+◌, ◌-◌, ◌*◌, ◌≤◌, ◌<◌, min}
 use mathlib.Core.Path.{◌≡◌, refl, sym, ap, ap₂, ◌∙◌}
 use mathlib.Core.Bool.{Bool, true, false, cond, ◌&&◌, and-false}
@@ -9,17 +10,15 @@ use lib.ListN.{length, take, drop, replicate, length-drop, drop_of_length-le}
 use lib.Seq.{drop-drop, length-take-le}
 use borrow.Author.Tests.{ltb-true, ltb-false, lt-ltb, le-ltb}
 use Rattle.digits.specs.Halves.{bad_field, is_none, behind, or_else, Lowest}
-use Rattle.digits.specs.declared.halves.Place.{Place}
-use Rattle.digits.specs.declared.halves.Place.TheVariants.{None, Half}
 use Rattle.digits.proofs.Bools.{no_false}
 use Rattle.digits.proofs.HalfLaws.{bad_field-none, bad_field-behind, bad_field-lowest, bad-inside, lowest-either}
 use Rattle.layout.specs.Cells.{Cell, raw, digits, cell_size, cell_good, size, good_cells}
 use Rattle.layout.specs.Places.{cell_bad, first_bad, bad_in_cell, bad_half}
 
 -- ---- none is told exactly where the digits are good
-pub else-none : (x y : Place) → is_none (or_else x y) ≡ (is_none x && is_none y)
+pub else-none : (x y : Option ℕ) → is_none (or_else x y) ≡ (is_none x && is_none y)
 else-none None y = refl
-else-none (Half p) y = refl
+else-none (Some p) y = refl
 
 cell-none : (c : Cell) (p : ℕ) (bs : List ℕ) → length bs ≡ cell_size c → is_none (cell_bad c p bs) ≡ cell_good c bs
 cell-none raw p bs l = refl
@@ -33,9 +32,9 @@ first_bad-none (c ∷ cs) p bs h =
     (first_bad-none cs (p + 2 * cell_size c) (drop (cell_size c) bs) (rw length-drop (omega arith)))
 
 -- ---- more halves before it
-else-behind : (k : ℕ) (x y : Place) → or_else (behind k x) (behind k y) ≡ behind k (or_else x y)
+else-behind : (k : ℕ) (x y : Option ℕ) → or_else (behind k x) (behind k y) ≡ behind k (or_else x y)
 else-behind k None y = refl
-else-behind k (Half p) y = refl
+else-behind k (Some p) y = refl
 
 cell-behind : (c : Cell) (k p : ℕ) (bs : List ℕ) → cell_bad c (k + p) bs ≡ behind k (cell_bad c p bs)
 cell-behind raw k p bs = refl
@@ -98,16 +97,16 @@ bad_half-size (c ∷ cs) bs q h = go (ltb q (2 * cell_size c)) refl h (bad_half-
     go true e b ih = omega (arith, ltb-true q (2 * cell_size c) e)
     go false e b ih = omega (arith, ltb-false q (2 * cell_size c) e, ih b)
 
-module _ (cs : List Cell) (p : ℕ) (bs : List ℕ) (q : ℕ) (e : first_bad cs p bs ≡ Half q) where
+module _ (cs : List Cell) (p : ℕ) (bs : List ℕ) (q : ℕ) (e : first_bad cs p bs ≡ Some q) where
   said : (p ≤ q) × (bad_half cs bs (q - p) ≡ true)
   said = go (first_bad cs p bs) e (first_bad-lowest cs p bs)
     where
-      same : (k : ℕ) → Half k ≡ Half q → k ≡ q
+      same : (k : ℕ) → Some k ≡ Some q → k ≡ q
       same k f = cc
 
-      go : (x : Place) → x ≡ Half q → Lowest (bad_half cs bs) p x → (p ≤ q) × (bad_half cs bs (q - p) ≡ true)
+      go : (x : Option ℕ) → x ≡ Some q → Lowest (bad_half cs bs) p x → (p ≤ q) × (bad_half cs bs (q - p) ≡ true)
       go None f l = let z : ◌≡◌ {A = ℕ} 0 1 = cc in absurd (omega arith)
-      go (Half k) f l = (omega (arith, same k f, l.0), ap (λ (x : ℕ). bad_half cs bs (x - p)) (sym (same k f)) ∙ l.1)
+      go (Some k) f l = (omega (arith, same k f, l.0), ap (λ (x : ℕ). bad_half cs bs (x - p)) (sym (same k f)) ∙ l.1)
 
   pub first_bad-from : p ≤ q
   first_bad-from = said.0
@@ -129,16 +128,16 @@ drop-none (suc k) = refl
 
 cell-past : (c : Cell) (p k : ℕ) → cell_bad c p (take k []) ≡ None
 cell-past raw p k = refl
-cell-past (digits n) p k = ap (bad_field n p) (take_none k) ∙ ap (λ (t : Bool). cond t (Half p) None) (and-false (eqb (Prim.Native.Nat.◌%◌ n 2) 1))
+cell-past (digits n) p k = ap (bad_field n p) (take_none k) ∙ ap (λ (t : Bool). cond t (Some p) None) (and-false (eqb (Prim.Native.Nat.◌%◌ n 2) 1))
 
 pub first_bad-past : (cs : List Cell) (p : ℕ) → first_bad cs p [] ≡ None
 first_bad-past [] p = refl
 first_bad-past (c ∷ cs) p =
     ap₂ or_else (cell-past c p (cell_size c)) (ap (first_bad cs (p + 2 * cell_size c)) (drop-none (cell_size c)) ∙ first_bad-past cs (p + 2 * cell_size c))
 
-else-assoc : (x y z : Place) → or_else (or_else x y) z ≡ or_else x (or_else y z)
+else-assoc : (x y z : Option ℕ) → or_else (or_else x y) z ≡ or_else x (or_else y z)
 else-assoc None y z = refl
-else-assoc (Half p) y z = refl
+else-assoc (Some p) y z = refl
 
 pub first_bad-append : (cs ds : List Cell) (p : ℕ) (bs : List ℕ)
     → first_bad (cs ++ ds) p bs ≡ or_else (first_bad cs p bs) (first_bad ds (p + 2 * size cs) (drop (size cs) bs))
@@ -151,9 +150,9 @@ first_bad-append (c ∷ cs) ds p bs =
     ∙ ap₂ (λ (x : ℕ) (l : List ℕ). or_else (first_bad cs (p + 2 * k) (drop k bs)) (first_bad ds x l)) e (drop-drop (size cs) k bs))
     ∙ sym (else-assoc (cell_bad c p (take k bs)) (first_bad cs (p + 2 * k) (drop k bs)) (first_bad ds (p + 2 * (k + size cs)) (drop (k + size cs) bs)))
 
-pub else-right : (x : Place) → or_else x None ≡ x
+pub else-right : (x : Option ℕ) → or_else x None ≡ x
 else-right None = refl
-else-right (Half p) = refl
+else-right (Some p) = refl
 
 -- cells behind the last byte add nothing
 pub first_bad-enough : (cs ds : List Cell) (p : ℕ) (bs : List ℕ) → length bs ≤ size cs → first_bad (cs ++ ds) p bs ≡ first_bad cs p bs

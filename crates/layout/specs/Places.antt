@@ -1,17 +1,15 @@
 -- Where the first bad digit of a layout's bytes is: the first half in its cells that is no digit there.
-use Rattle.std.specs.Prelude.{ℕ, zero, suc, ◌+◌, ◌-◌, ◌*◌, Bool, false, cond, List, [], ◌∷◌, take, drop, ltb}
+use Rattle.std.specs.Prelude.{ℕ, zero, suc, ◌+◌, ◌-◌, ◌*◌, Bool, false, cond, List, [], ◌∷◌, take, drop, ltb, None, Option}
 use Rattle.digits.specs.Halves.{bad_field, is_bad, or_else}
-use Rattle.digits.specs.declared.halves.Place.{Place}
-use Rattle.digits.specs.declared.halves.Place.TheVariants.{None}
 use Rattle.layout.specs.Cells.{Cell, raw, digits, cell_size}
 
 -- the first bad half of a cell's bytes, where p halves stand before them; a byte that is handed on as it is has none
-abbrev pub cell_bad : Cell → ℕ → List ℕ → Place
+abbrev pub cell_bad : Cell → ℕ → List ℕ → Option ℕ
 cell_bad raw p bs = None
 cell_bad (digits n) p bs = bad_field n p bs
 
 -- the first bad half in the cells of a layout, where p halves stand before its bytes
-abbrev pub first_bad : List Cell → ℕ → List ℕ → Place
+abbrev pub first_bad : List Cell → ℕ → List ℕ → Option ℕ
 first_bad [] p bs = None
 first_bad (c ∷ cs) p bs = or_else (cell_bad c p (take (cell_size c) bs)) (first_bad cs (p + 2 * cell_size c) (drop (cell_size c) bs))
 

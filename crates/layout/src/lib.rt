@@ -10,15 +10,8 @@ pub mod places;
 pub fn put_bytes(s: &[u8], buf: &mut [u8], at: usize)
     ensures { buf.new ≡ bytes_over s.now buf.old at }
 {
-    if buf.len() < s.len() {
+    if buf.len() < s.len() || buf.len() - s.len() < at {
         return;
     }
-    if buf.len() - s.len() < at {
-        return;
-    }
-    let mut i = 0;
-    while i < s.len() {
-        buf[at + i] = s[i];
-        i += 1;
-    }
+    buf[at..at + s.len()].copy_from_slice(s);
 }

@@ -6,7 +6,7 @@ use mathlib.Core.Bool.{Bool}
 use mathlib.Core.List.{List, [], ◌∷◌}
 use mathlib.Core.Logic.{◌⊎◌, ◌↔◌, inr, ⊎_elim}
 use Rattle.ledger.specs.Sets.{with, settled, runs_to, Highest, Longest}
-use Rattle.ledger.specs.Calls.{most_number, most_runs, arrival_number}
+use Rattle.ledger.specs.Calls.{most_number, most_runs, answer_number}
 use Rattle.ledger.specs.History.{after, answer_to, recorded, floor_after, Tells}
 use Rattle.ledger.specs.Before.{arrivals, Longest as LongestBefore, Tells as TellsBefore, AsBefore}
 use Rattle.ledger.specs.declared.Ledger.{Ledger}
@@ -79,7 +79,7 @@ pub as_before : (ns : List ℕ) → AsBefore ns
 as_before ns = record {
   tells = tells-before (recorded (arrivals ns)) (after (arrivals ns)) (subst (λ (floor : ℕ). Tells (recorded (arrivals ns)) floor (after (arrivals ns))) (no-floor ns) (series-told (arrivals ns)));
   refuses = λ (n top : ℕ) (lo : 1 ≤ n) (hi : n ≤ most_number) (most : Highest (recorded (arrivals ns)) top).
-      refuses-before (recorded (arrivals ns)) n top (arrival_number (answer_to (arrivals ns) n)) lo
-      (subst (λ (floor : ℕ). (0 < arrival_number (answer_to (arrivals ns) n)) ↔ ((n ≤ floor) ⊎ (most_runs < runs_to (settled floor (with n (recorded (arrivals ns)))) (max n top)))) (no-floor ns)
+      refuses-before (recorded (arrivals ns)) n top (answer_number (answer_to (arrivals ns) n)) lo
+      (subst (λ (floor : ℕ). (0 < answer_number (answer_to (arrivals ns) n)) ↔ ((n ≤ floor) ⊎ (most_runs < runs_to (settled floor (with n (recorded (arrivals ns)))) (max n top)))) (no-floor ns)
       (refused-exactly (arrivals ns) n top lo hi most));
 }

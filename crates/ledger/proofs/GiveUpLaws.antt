@@ -7,11 +7,13 @@ use mathlib.Core.List.{List}
 use lib.ListN.{length, get_or}
 use lib.Dec.{leb, eqb}
 use borrow.Author.Tests.{leb-true, leb-false, eqb-true, eqb-false, eq-eqb, ne_eqb}
+use Rattle.std.specs.Prelude.{Ok, Err}
 use Rattle.ledger.specs.Ends.{places, falling, ends_from, settled_at, runs_in, first_of, last_of, without_lowest, fitted}
-use Rattle.ledger.specs.Calls.{ledger_of, valid, keeps, gave_up_of}
+use Rattle.ledger.specs.Calls.{ledger_of, valid, stays, gave_up_of, run_from}
 use Rattle.ledger.specs.declared.Ledger.{Ledger}
-use Rattle.ledger.specs.declared.RunAt.{RunAt}
-use Rattle.ledger.specs.declared.GaveUp.{GaveUp}
+use Rattle.ledger.specs.declared.Run.{Run}
+use Rattle.ledger.specs.declared.Answered.{Answered}
+use Rattle.ledger.specs.declared.LedgerError.{LedgerError}
 use Rattle.ledger.proofs.EndLaws.{falls-next, from-length, from-below, from-above, from-between, odd-settled, even-missing}
 use Rattle.ledger.proofs.TurnLaws.{from_first, from-fewer, take-falls, fitted-from}
 use Rattle.ledger.proofs.FloorLaws.{Fits, no-floor, a-floor}
@@ -21,14 +23,14 @@ abbrev pub with_less : Ledger → Ledger
 with_less l = ledger_of (fitted (without_lowest l.ends)) (last_of l.ends 0) (l.given + (last_of l.ends 0 + 1 - first_of l.ends 0))
 
 -- the answer to giving it up
-abbrev pub lowest_gone : Ledger → GaveUp
-lowest_gone l = record { ledger = with_less l; answer = RunAt.Run (first_of l.ends 0) (last_of l.ends 0) }
+abbrev pub lowest_gone : Ledger → Answered Run
+lowest_gone l = record { ledger = with_less l; answer = Ok (run_from (first_of l.ends 0) (last_of l.ends 0)) }
 
-pub give-up-damaged : (l : Ledger) → valid l ≡ false → keeps l (RunAt.Refused 20) ≡ gave_up_of l
+pub give-up-damaged : (l : Ledger) → valid l ≡ false → stays l (Err LedgerError.Damaged) ≡ gave_up_of l
 unfolding gave_up_of
 give-up-damaged l bad = rw bad refl
 
-pub give-up-none : (l : Ledger) → valid l ≡ true → runs_in l.ends ≡ 0 → keeps l (RunAt.Refused 24) ≡ gave_up_of l
+pub give-up-none : (l : Ledger) → valid l ≡ true → runs_in l.ends ≡ 0 → stays l (Err LedgerError.NothingMissing) ≡ gave_up_of l
 unfolding gave_up_of
 give-up-none l ok none = rw (ok, eq-eqb (runs_in l.ends) 0 none) refl
 
@@ -37,15 +39,15 @@ unfolding gave_up_of
 give-up-some l ok some = rw (ok, ne_eqb (runs_in l.ends) 0 (λ (q : runs_in l.ends ≡ 0). omega arith)) refl
 
 -- giving up at a good record is one of these
-pub data Gives (l : Ledger) : GaveUp → Type 0 where
-  no_run : runs_in l.ends ≡ 0 → Gives l (keeps l (RunAt.Refused 24))
+pub data Gives (l : Ledger) : Answered Run → Type 0 where
+  no_run : runs_in l.ends ≡ 0 → Gives l (stays l (Err LedgerError.NothingMissing))
   a-run : 1 ≤ runs_in l.ends → Gives l (lowest_gone l)
 
 pub gives : (l : Ledger) → valid l ≡ true → Gives l (gave_up_of l)
 unfolding gave_up_of
 gives l ok = rw ok (go (eqb (runs_in l.ends) 0) refl)
   where
-    go : (t : Bool) → eqb (runs_in l.ends) 0 ≡ t → Gives l (cond t (keeps l (RunAt.Refused 24)) (lowest_gone l))
+    go : (t : Bool) → eqb (runs_in l.ends) 0 ≡ t → Gives l (cond t (stays l (Err LedgerError.NothingMissing)) (lowest_gone l))
     go true p = no_run (eqb-true (runs_in l.ends) 0 p)
     go false p = let ne : runs_in l.ends ≡ 0 → ⊥ = eqb-false (runs_in l.ends) 0 p in a-run (omega arith)
 

@@ -11,11 +11,12 @@ use lib.Dec.{leb, eqb}
 use borrow.Author.Tests.{leb-true, leb-false, le-leb, lt-leb, ltb-true, ltb-false, lt-ltb, le-ltb, ne_eqb}
 use Rattle.ledger.specs.Sets.{with, left_out, settled, count_to, runs_to, ends_run, first_above, Highest}
 use Rattle.ledger.specs.Ends.{places, falling, ends_from, settled_at, highest_in, settled_in, missing_in, runs_in, first_of, last_of, turned, with_number, without_lowest, fitted}
-use Rattle.ledger.specs.Calls.{most_number, most_runs, arrival_number, fresh, valid, arrived_of, gave_up_of}
+use Rattle.ledger.specs.Calls.{most_number, most_runs, answer_number, fresh, valid, arrived_of, gave_up_of}
 use Rattle.ledger.specs.History.{Event, arrives, gives_up, after, answer_to, recorded, floor_after, Tells, answer_by}
 use Rattle.ledger.specs.declared.Ledger.{Ledger}
-use Rattle.ledger.specs.declared.Arrived.{Arrived}
-use Rattle.ledger.specs.declared.GaveUp.{GaveUp}
+use Rattle.ledger.specs.declared.Arrival.{Arrival}
+use Rattle.ledger.specs.declared.Run.{Run}
+use Rattle.ledger.specs.declared.Answered.{Answered}
 use Rattle.ledger.proofs.EndLaws.{falls-bound, from-length, even-missing, missing-even, settled-under-highest}
 use Rattle.ledger.proofs.SetLaws.{count_same, count-above, runs_same, highest-once, highest-same, runs-of-same, with-highest, with-there}
 use Rattle.ledger.proofs.TrueLaws.{ends-highest, ends-settled, ends-runs, ends-are-runs}
@@ -108,10 +109,10 @@ module _ (f : ℕ → Bool) (l : Ledger) (n : ℕ) (h : Holds f l) (one : 1 ≤ 
   }
 
 -- an arrival that is not refused puts its number in
-abbrev with_arrival : ℕ → Arrived → (ℕ → Bool) → ℕ → Bool
-with_arrival n r f y = (eqb y n && eqb (arrival_number r.answer) 0) || f y
+abbrev with_arrival : ℕ → Answered Arrival → (ℕ → Bool) → ℕ → Bool
+with_arrival n r f y = (eqb y n && eqb (answer_number r.answer) 0) || f y
 
-holds-arrival : (f : ℕ → Bool) (l : Ledger) (n : ℕ) (r : Arrived) → Holds f l → Arrives l n r → Holds (with_arrival n r f) r.ledger
+holds-arrival : (f : ℕ → Bool) (l : Ledger) (n : ℕ) (r : Answered Arrival) → Holds f l → Arrives l n r → Holds (with_arrival n r f) r.ledger
 holds-arrival f l n r h (outside o) = holds_same f (with_arrival n r f) l (λ (y : ℕ) (lo : 1 ≤ y). rw (and-false (eqb y n)) refl) h
 holds-arrival f l n r h (under one hi low) = holds_same f (with_arrival n r f) l (λ (y : ℕ) (lo : 1 ≤ y). rw (and-false (eqb y n)) refl) h
 holds-arrival f l n r h (full one hi above miss many) = holds_same f (with_arrival n r f) l (λ (y : ℕ) (lo : 1 ≤ y). rw (and-false (eqb y n)) refl) h
@@ -195,7 +196,7 @@ no-run-floor f l h none = sym (first-none (ends_run f) l.floor most_number (λ (
         let next : ends_from (y + 1) l.ends ≡ 0 = omega (arith, none, from-fewer 1 y l.ends (omega arith), from-fewer y (y + 1) l.ends (omega arith)) in
         sym (above_in f l (y + 1) h (omega arith)) ∙ even-missing l.ends (y + 1) (omega arith)
 
-pub holds-give-up : (f : ℕ → Bool) (l : Ledger) (r : GaveUp) → Holds f l → Gives l r → Holds f r.ledger
+pub holds-give-up : (f : ℕ → Bool) (l : Ledger) (r : Answered Run) → Holds f l → Gives l r → Holds f r.ledger
 holds-give-up f l r h (no_run none) = h
 holds-give-up f l r h (a-run some) = less-holds f l h some
 
@@ -210,14 +211,14 @@ series-holds (gives_up ∷ hs) =
     holds-give-up (recorded hs) (after hs) (gave_up_of (after hs)) h (gives (after hs) (good-valid (after hs) h.good))
 
 -- an arrival leaves the floor; giving up moves it
-floor-stays : (l : Ledger) (n : ℕ) (r : Arrived) → Arrives l n r → r.ledger.floor ≡ l.floor
+floor-stays : (l : Ledger) (n : ℕ) (r : Answered Arrival) → Arrives l n r → r.ledger.floor ≡ l.floor
 floor-stays l n r (outside o) = refl
 floor-stays l n r (under one hi low) = refl
 floor-stays l n r (repeats one hi above there) = refl
 floor-stays l n r (full one hi above miss many) = refl
 floor-stays l n r (new one hi above miss few) = refl
 
-floor-moves : (f : ℕ → Bool) (l : Ledger) (r : GaveUp) → Holds f l → Gives l r → r.ledger.floor ≡ first_above (ends_run f) l.floor most_number
+floor-moves : (f : ℕ → Bool) (l : Ledger) (r : Answered Run) → Holds f l → Gives l r → r.ledger.floor ≡ first_above (ends_run f) l.floor most_number
 floor-moves f l r h (no_run none) = no-run-floor f l h none
 floor-moves f l r h (a-run some) = less-floor f l h some
 
@@ -315,7 +316,7 @@ module _ (f : ℕ → Bool) (l : Ledger) (n top : ℕ) (h : Holds f l) (one : 1 
       omega (arith, from-length 1 l.ends, h.good.whole)
 
 -- each answer is the one that the set gives
-answer-by : (f : ℕ → Bool) (l : Ledger) (n top : ℕ) (r : Arrived) → Holds f l → Highest f top → Arrives l n r → r.answer ≡ answer_by f l.floor top n
+answer-by : (f : ℕ → Bool) (l : Ledger) (n top : ℕ) (r : Answered Arrival) → Holds f l → Highest f top → Arrives l n r → r.answer ≡ answer_by f l.floor top n
 unfolding answer_by
 answer-by f l n top r h hi (outside o) = rw o refl
 answer-by f l n top r h hi (under one most low) = rw (inside n one most, le-leb n l.floor low) refl
@@ -333,8 +334,8 @@ series-answers hs n top hi =
 
 -- an arrival within the allowed numbers is refused exactly when it is not above the floor, or recording it would leave more than 64
 -- runs above the floor
-refused-by : (f : ℕ → Bool) (l : Ledger) (n top : ℕ) (r : Arrived) → 1 ≤ n → n ≤ most_number → Holds f l → Highest f top → Arrives l n r
-    → (0 < arrival_number r.answer) ↔ ((n ≤ l.floor) ⊎ (most_runs < runs_to (settled l.floor (with n f)) (max n top)))
+refused-by : (f : ℕ → Bool) (l : Ledger) (n top : ℕ) (r : Answered Arrival) → 1 ≤ n → n ≤ most_number → Holds f l → Highest f top → Arrives l n r
+    → (0 < answer_number r.answer) ↔ ((n ≤ l.floor) ⊎ (most_runs < runs_to (settled l.floor (with n f)) (max n top)))
 refused-by f l n top r lo most h hi (outside o) = absurd (false≢true (sym (inside n lo most) ∙ o))
 refused-by f l n top r lo most h hi (under one _ low) = (
   λ (refused : 0 < 25). inl low,
@@ -357,8 +358,8 @@ refused-by f l n top r lo most h hi (new one _ above miss few) = (
 )
 
 pub refused-exactly : (hs : List Event) (n top : ℕ) → 1 ≤ n → n ≤ most_number → Highest (recorded hs) top
-    → (0 < arrival_number (answer_to hs n)) ↔ ((n ≤ floor_after hs) ⊎ (most_runs < runs_to (settled (floor_after hs) (with n (recorded hs))) (max n top)))
+    → (0 < answer_number (answer_to hs n)) ↔ ((n ≤ floor_after hs) ⊎ (most_runs < runs_to (settled (floor_after hs) (with n (recorded hs))) (max n top)))
 refused-exactly hs n top lo most hi =
     let h = series-holds hs in
-    subst (λ (floor : ℕ). (0 < arrival_number (answer_to hs n)) ↔ ((n ≤ floor) ⊎ (most_runs < runs_to (settled floor (with n (recorded hs))) (max n top)))) (series-floor hs)
+    subst (λ (floor : ℕ). (0 < answer_number (answer_to hs n)) ↔ ((n ≤ floor) ⊎ (most_runs < runs_to (settled floor (with n (recorded hs))) (max n top)))) (series-floor hs)
     (refused-by (recorded hs) (after hs) n top (arrived_of (after hs) n) lo most h hi (arrival (after hs) n (good-valid (after hs) h.good)))

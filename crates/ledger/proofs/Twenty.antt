@@ -9,14 +9,15 @@ use lib.ListN.{length, get_or, take, replicate, length-append}
 use lib.Seq.{take_at}
 use lib.Dec.{leb, ltb, eqb}
 use borrow.Author.Tests.{leb-true, leb-false, le-leb, eqb-true, eqb-false, lt-ltb, le-ltb}
+use Rattle.std.specs.Prelude.{Ok, Err}
 use Rattle.ledger.specs.Ends.{places, falling, ends_from, settled_at, highest_in, settled_in, missing_in, runs_in, first_of, last_of, turned, with_number, without_lowest, floor_fits, fitted}
-use Rattle.ledger.specs.Calls.{most_number, most_runs, arrival_number, figure_number, run_number, ledger_of, valid, stays, keeps, arrived_of, gave_up_of, lent_arrived_of, lent_gave_up_of, figure_of, run_of}
+use Rattle.ledger.specs.Calls.{most_number, most_runs, answer_number, ledger_of, valid, stays, arrived_of, gave_up_of, lent_arrived_of, lent_gave_up_of, figure_of, run_of, run_from}
 use Rattle.ledger.specs.History.{arrives, gives_up, Reached, Exactly20, LentExactly20}
 use Rattle.ledger.specs.declared.Ledger.{Ledger}
 use Rattle.ledger.specs.declared.Arrival.{Arrival}
-use Rattle.ledger.specs.declared.Arrived.{Arrived}
-use Rattle.ledger.specs.declared.RunAt.{RunAt}
-use Rattle.ledger.specs.declared.GaveUp.{GaveUp}
+use Rattle.ledger.specs.declared.Run.{Run}
+use Rattle.ledger.specs.declared.Answered.{Answered}
+use Rattle.ledger.specs.declared.LedgerError.{LedgerError}
 use Rattle.ledger.proofs.EndLaws.{both_left, both_right, falls-head, falls-tail, falls-cons, falls-under, falls-bound, from-none, from-length, from-above, even-missing}
 use Rattle.ledger.proofs.TurnLaws.{turn-out, turn_in, zeros-fall, from-append, from-zeros, fitted-same}
 use Rattle.ledger.proofs.FloorLaws.{Fits, no-floor, a-floor, fits-is, fits-apart}
@@ -56,7 +57,7 @@ reached-by floor given es less n g lo hi none few fit (hs, is) =
     let miss : settled_at less n ≡ false = even-missing less n (omega arith) in
     let room : ltb most_runs (runs_in (with_number n less)) ≡ false = le-ltb most_runs (runs_in (with_number n less)) (omega arith) in (
       arrives n ∷ hs,
-      ap (λ (x : Ledger). (arrived_of x n).ledger) is ∙ ap (λ (r : Arrived). r.ledger) (sym (arrive-new l n (good-valid l g) (omega arith) hi lo miss room))
+      ap (λ (x : Ledger). (arrived_of x n).ledger) is ∙ ap (λ (r : Answered Arrival). r.ledger) (sym (arrive-new l n (good-valid l g) (omega arith) hi lo miss room))
           ∙ ap (λ (x : List ℕ). ledger_of x floor given) fit,
     )
 
@@ -251,7 +252,7 @@ module _ (floor given : ℕ) (some : 1 ≤ given) (most : given ≤ floor) (top 
       let first : first_of before 0 ≡ floor - given + 1 = ap (λ (r : ℕ). get_or before (2 * (r - 0)) 0 + 1) one-run in
       let count : 0 + (last_of before 0 + 1 - first_of before 0) ≡ given = omega (arith, last, first) in (
         gives_up ∷ there.0,
-        ap (λ (x : Ledger). (gave_up_of x).ledger) there.1 ∙ ap (λ (r : GaveUp). r.ledger) (sym (give-up-some l (good-valid l before-good) (omega (arith, one-run))))
+        ap (λ (x : Ledger). (gave_up_of x).ledger) there.1 ∙ ap (λ (r : Answered Run). r.ledger) (sym (give-up-some l (good-valid l before-good) (omega (arith, one-run))))
             ∙ (λ i. ledger_of (ends i) (last i) (count i)),
       )
 
@@ -302,41 +303,41 @@ exactly l number long bad good = (
     go none true p = absurd (none (good-reached l (valid-good l long p)))
     go none false p = bad p
 
-arrival-other : (l : Ledger) (n : ℕ) (r : Arrived) → Arrives l n r → arrival_number r.answer ≡ 20 → ⊥
+arrival-other : (l : Ledger) (n : ℕ) (r : Answered Arrival) → Arrives l n r → answer_number r.answer ≡ 20 → ⊥
 arrival-other l n r (outside o) is = omega arith
 arrival-other l n r (under lo hi low) is = omega arith
 arrival-other l n r (repeats lo hi above there) is = omega arith
 arrival-other l n r (full lo hi above miss many) is = omega arith
 arrival-other l n r (new lo hi above miss few) is = omega arith
 
-giving-other : (l : Ledger) (r : GaveUp) → Gives l r → run_number r.answer ≡ 20 → ⊥
+giving-other : (l : Ledger) (r : Answered Run) → Gives l r → answer_number r.answer ≡ 20 → ⊥
 giving-other l r (no_run none) is = omega arith
 giving-other l r (a-run some) is = omega arith
 
-figure-exactly : (l : Ledger) (x : ℕ) → length l.ends ≡ places → (figure_number (figure_of l x) ≡ 20) ↔ (Reached l → ⊥)
-figure-exactly l x long = exactly l (figure_number (figure_of l x)) long (λ (bad : valid l ≡ false). rw bad refl) other
+figure-exactly : (l : Ledger) (x : ℕ) → length l.ends ≡ places → (answer_number (figure_of l x) ≡ 20) ↔ (Reached l → ⊥)
+figure-exactly l x long = exactly l (answer_number (figure_of l x)) long (λ (bad : valid l ≡ false). rw bad refl) other
   where
-    other : valid l ≡ true → figure_number (figure_of l x) ≡ 20 → ⊥
+    other : valid l ≡ true → answer_number (figure_of l x) ≡ 20 → ⊥
     other ok = rw ok (λ (is : ◌≡◌ {A = ℕ} 0 20). omega arith)
 
-run-exactly : (l : Ledger) (k : ℕ) → length l.ends ≡ places → (run_number (run_of l k) ≡ 20) ↔ (Reached l → ⊥)
-run-exactly l k long = exactly l (run_number (run_of l k)) long (λ (bad : valid l ≡ false). rw bad refl) other
+run-exactly : (l : Ledger) (k : ℕ) → length l.ends ≡ places → (answer_number (run_of l k) ≡ 20) ↔ (Reached l → ⊥)
+run-exactly l k long = exactly l (answer_number (run_of l k)) long (λ (bad : valid l ≡ false). rw bad refl) other
   where
-    go : (t : Bool) → run_number (cond t (RunAt.Run (first_of l.ends k) (last_of l.ends k)) (RunAt.Refused 23)) ≡ 20 → ⊥
+    go : (t : Bool) → answer_number (cond t (Ok (run_from (first_of l.ends k) (last_of l.ends k))) (Err LedgerError.NoSuchRun)) ≡ 20 → ⊥
     go true is = omega arith
     go false is = omega arith
 
-    other : valid l ≡ true → run_number (run_of l k) ≡ 20 → ⊥
+    other : valid l ≡ true → answer_number (run_of l k) ≡ 20 → ⊥
     other ok = rw ok (go (ltb k (runs_in l.ends)))
 
 -- 20, exactly
 pub twenty-exactly : (l : Ledger) → length l.ends ≡ places → Exactly20 l
 twenty-exactly l long = record {
-  arrival = λ (n : ℕ). exactly l (arrival_number (arrived_of l n).answer) long
-      (λ (bad : valid l ≡ false). ap (λ (r : Arrived). arrival_number r.answer) (sym (arrive-damaged l n bad)))
+  arrival = λ (n : ℕ). exactly l (answer_number (arrived_of l n).answer) long
+      (λ (bad : valid l ≡ false). ap (λ (r : Answered Arrival). answer_number r.answer) (sym (arrive-damaged l n bad)))
       (λ (ok : valid l ≡ true). arrival-other l n (arrived_of l n) (arrival l n ok));
-  giving-up = exactly l (run_number (gave_up_of l).answer) long
-      (λ (bad : valid l ≡ false). ap (λ (r : GaveUp). run_number r.answer) (sym (give-up-damaged l bad)))
+  giving-up = exactly l (answer_number (gave_up_of l).answer) long
+      (λ (bad : valid l ≡ false). ap (λ (r : Answered Run). answer_number r.answer) (sym (give-up-damaged l bad)))
       (λ (ok : valid l ≡ true). giving-other l (gave_up_of l) (gives l ok));
   highest = figure-exactly l (highest_in l.ends) long;
   heard = figure-exactly l (settled_in l.ends - l.given) long;
@@ -361,51 +362,51 @@ lent-twenty-exactly l = record {
       λ (none : Reached l → ⊥). is,
     )
 
-    arrived : (n : ℕ) (t : Bool) → eqb (length l.ends) places ≡ t → (arrival_number (cond t (arrived_of l n) (stays l (Arrival.Refused 20))).answer ≡ 20) ↔ (Reached l → ⊥)
+    arrived : (n : ℕ) (t : Bool) → eqb (length l.ends) places ≡ t → (answer_number (cond t (arrived_of l n) (stays l (Err LedgerError.Damaged))).answer ≡ 20) ↔ (Reached l → ⊥)
     arrived n true p = (twenty-exactly l (eqb-true (length l.ends) places p)).arrival n
     arrived n false p = short 20 refl p
 
-    gave-up : (t : Bool) → eqb (length l.ends) places ≡ t → (run_number (cond t (gave_up_of l) (keeps l (RunAt.Refused 20))).answer ≡ 20) ↔ (Reached l → ⊥)
+    gave-up : (t : Bool) → eqb (length l.ends) places ≡ t → (answer_number (cond t (gave_up_of l) (stays l (Err LedgerError.Damaged))).answer ≡ 20) ↔ (Reached l → ⊥)
     gave-up true p = (twenty-exactly l (eqb-true (length l.ends) places p)).giving-up
     gave-up false p = short 20 refl p
 
 -- a refusal leaves the ledger as it was
-kept_by : (l : Ledger) (n : ℕ) (r : Arrived) → Arrives l n r → 0 < arrival_number r.answer → r.ledger ≡ l
+kept_by : (l : Ledger) (n : ℕ) (r : Answered Arrival) → Arrives l n r → 0 < answer_number r.answer → r.ledger ≡ l
 kept_by l n r (outside o) refused = refl
 kept_by l n r (under lo hi low) refused = refl
 kept_by l n r (repeats lo hi above there) refused = refl
 kept_by l n r (full lo hi above miss many) refused = refl
 kept_by l n r (new lo hi above miss few) refused = absurd (omega arith)
 
-pub refused-keeps : (l : Ledger) (n : ℕ) → 0 < arrival_number (arrived_of l n).answer → (arrived_of l n).ledger ≡ l
+pub refused-keeps : (l : Ledger) (n : ℕ) → 0 < answer_number (arrived_of l n).answer → (arrived_of l n).ledger ≡ l
 refused-keeps l n refused = go (valid l) refl
   where
     go : (t : Bool) → valid l ≡ t → (arrived_of l n).ledger ≡ l
     go true p = kept_by l n (arrived_of l n) (arrival l n p) refused
-    go false p = ap (λ (r : Arrived). r.ledger) (sym (arrive-damaged l n p))
+    go false p = ap (λ (r : Answered Arrival). r.ledger) (sym (arrive-damaged l n p))
 
-given-kept : (l : Ledger) (r : GaveUp) → Gives l r → 0 < run_number r.answer → r.ledger ≡ l
+given-kept : (l : Ledger) (r : Answered Run) → Gives l r → 0 < answer_number r.answer → r.ledger ≡ l
 given-kept l r (no_run none) refused = refl
 given-kept l r (a-run some) refused = absurd (omega arith)
 
-pub refused-give-up-keeps : (l : Ledger) → 0 < run_number (gave_up_of l).answer → (gave_up_of l).ledger ≡ l
+pub refused-give-up-keeps : (l : Ledger) → 0 < answer_number (gave_up_of l).answer → (gave_up_of l).ledger ≡ l
 refused-give-up-keeps l refused = go (valid l) refl
   where
     go : (t : Bool) → valid l ≡ t → (gave_up_of l).ledger ≡ l
     go true p = given-kept l (gave_up_of l) (gives l p) refused
-    go false p = ap (λ (r : GaveUp). r.ledger) (sym (give-up-damaged l p))
+    go false p = ap (λ (r : Answered Run). r.ledger) (sym (give-up-damaged l p))
 
 -- and one whose ends are lent too
-pub lent-refused-keeps : (l : Ledger) (n : ℕ) → 0 < arrival_number (lent_arrived_of l n).answer → (lent_arrived_of l n).ledger ≡ l
+pub lent-refused-keeps : (l : Ledger) (n : ℕ) → 0 < answer_number (lent_arrived_of l n).answer → (lent_arrived_of l n).ledger ≡ l
 lent-refused-keeps l n = go (eqb (length l.ends) places)
   where
-    go : (t : Bool) → 0 < arrival_number (cond t (arrived_of l n) (stays l (Arrival.Refused 20))).answer → (cond t (arrived_of l n) (stays l (Arrival.Refused 20))).ledger ≡ l
+    go : (t : Bool) → 0 < answer_number (cond t (arrived_of l n) (stays l (Err LedgerError.Damaged))).answer → (cond t (arrived_of l n) (stays l (Err LedgerError.Damaged))).ledger ≡ l
     go true refused = refused-keeps l n refused
     go false refused = refl
 
-pub lent-refused-give-up-keeps : (l : Ledger) → 0 < run_number (lent_gave_up_of l).answer → (lent_gave_up_of l).ledger ≡ l
+pub lent-refused-give-up-keeps : (l : Ledger) → 0 < answer_number (lent_gave_up_of l).answer → (lent_gave_up_of l).ledger ≡ l
 lent-refused-give-up-keeps l = go (eqb (length l.ends) places)
   where
-    go : (t : Bool) → 0 < run_number (cond t (gave_up_of l) (keeps l (RunAt.Refused 20))).answer → (cond t (gave_up_of l) (keeps l (RunAt.Refused 20))).ledger ≡ l
+    go : (t : Bool) → 0 < answer_number (cond t (gave_up_of l) (stays l (Err LedgerError.Damaged))).answer → (cond t (gave_up_of l) (stays l (Err LedgerError.Damaged))).ledger ≡ l
     go true refused = refused-give-up-keeps l refused
     go false refused = refl

@@ -1,11 +1,10 @@
 -- What was demanded while no run could be given up: of a series of arrivals alone it still holds.
-use Rattle.std.specs.Prelude.{ℕ, ◌+◌, ◌-◌, ◌≤◌, ◌<◌, max, ◌≡◌, Bool, true, false, List, [], ◌∷◌, ◌⊎◌, ◌↔◌}
+use Rattle.std.specs.Prelude.{ℕ, ◌+◌, ◌-◌, ◌≤◌, ◌<◌, max, ◌≡◌, Bool, true, false, List, [], ◌∷◌, ◌⊎◌, ◌↔◌, Ok, Err}
 use Rattle.ledger.specs.Sets.{with, count_to, runs_to, Highest}
-use Rattle.ledger.specs.Calls.{most_number, most_runs, arrival_number, highest_of, heard_of, missing_of, runs_of, run_of}
+use Rattle.ledger.specs.Calls.{most_number, most_runs, answer_number, highest_of, heard_of, missing_of, runs_of, run_of, run_from}
 use Rattle.ledger.specs.History.{Event, arrives, after, answer_to, recorded}
 use Rattle.ledger.specs.declared.Ledger.{Ledger}
-use Rattle.ledger.specs.declared.Figure.{Figure}
-use Rattle.ledger.specs.declared.RunAt.{RunAt}
+use Rattle.ledger.specs.declared.LedgerError.{LedgerError}
 
 -- a series without give-ups
 abbrev pub arrivals : List ℕ → List Event
@@ -29,12 +28,12 @@ pub record Tells (f : ℕ → Bool) (l : Ledger) : Type 0 where
   pub runs : ℕ
   pub first : ℕ → ℕ
   pub last : ℕ → ℕ
-  pub says-highest : highest_of l ≡ Figure.Is highest
-  pub says-heard : heard_of l ≡ Figure.Is heard
-  pub says-missing : missing_of l ≡ Figure.Is missing
-  pub says-runs : runs_of l ≡ Figure.Is runs
-  pub says-run : (k : ℕ) → k < runs → run_of l k ≡ RunAt.Run (first k) (last k)
-  pub says-no-run : (k : ℕ) → runs ≤ k → run_of l k ≡ RunAt.Refused 23
+  pub says-highest : highest_of l ≡ Ok highest
+  pub says-heard : heard_of l ≡ Ok heard
+  pub says-missing : missing_of l ≡ Ok missing
+  pub says-runs : runs_of l ≡ Ok runs
+  pub says-run : (k : ℕ) → k < runs → run_of l k ≡ Ok (run_from (first k) (last k))
+  pub says-no-run : (k : ℕ) → runs ≤ k → run_of l k ≡ Err LedgerError.NoSuchRun
   pub is-highest : Highest f highest
   pub is-heard : heard ≡ count_to f highest
   pub adds-up : heard + missing ≡ highest
@@ -48,4 +47,4 @@ pub record Tells (f : ℕ → Bool) (l : Ledger) : Type 0 where
 pub record AsBefore (ns : List ℕ) : Type 0 where
   pub tells : Tells (recorded (arrivals ns)) (after (arrivals ns))
   pub refuses : (n top : ℕ) → 1 ≤ n → n ≤ most_number → Highest (recorded (arrivals ns)) top
-      → (0 < arrival_number (answer_to (arrivals ns) n)) ↔ (most_runs < runs_to (with n (recorded (arrivals ns))) (max n top))
+      → (0 < answer_number (answer_to (arrivals ns) n)) ↔ (most_runs < runs_to (with n (recorded (arrivals ns))) (max n top))

@@ -4,7 +4,8 @@ use contract.Lifetimes
 use borrow.Fn.World
 use borrow.Fn.Kinds as kinds
 use denote.Triple.Clauses
-use Rattle.ledger.specs.declared.Arrived.{Arrived}
+use Rattle.ledger.specs.declared.Arrival.{Arrival}
+use Rattle.ledger.specs.declared.Answered.{Answered}
 use Rattle.ledger_arrivals.specs.contracts.arrive as arrive
 use Rattle.ledger_arrivals.proofs.arrive.Kinds as arrive-kinds
 use Rattle.ledger_arrivals.proofs.arrive.Reads as arrive-reads
@@ -24,4 +25,4 @@ pub determined-arrive-lent : (κs : Lifetimes.Lfts 1) (a : World.ArgsD lent.sign
     → (r₁ ≡ r₂) × (s₁.0.now ≡ s₂.0.now)
 determined-arrive-lent κs a r₁ r₂ s₁ s₂ p q =
     let same = p ∙ sym q in
-    (ap (λ (x : Arrived). x.answer) same, ap (λ (x : Arrived). x.ledger.ends) same)
+    (ap (λ (x : Answered Arrival). x.answer) same, ap (λ (x : Answered Arrival). x.ledger.ends) same)

@@ -1,15 +1,14 @@
 -- Ends moved by two places, down or up; zeros behind the last stay as they are.
-use Prim.Native.Nat.{ℕ, zero, suc, ◌+◌, ◌-◌, ◌≤◌, ◌<◌}
-use native.Mathlib.Numerals.{add-one}
+use Prim.Native.Nat.{ℕ, zero, suc, ◌+◌, ◌-◌, ◌≤◌}
 use native.Mathlib.Omega.{arith}
 use mathlib.Core.Path.{◌≡◌, refl, sym, ap, ◌∙◌, ap₂}
 use mathlib.Core.Bool.{true}
 use mathlib.Core.List.{List, [], ◌∷◌, ◌++◌, append_assoc}
-use lib.ListN.{length, get_or, take, drop, set, length-set, drop_of_length-le, replicate}
-use lib.Seq.{take-add, take-suc-set, drop-set-lt, take-set-le, take-take, get_or-drop, get_or-take, get_or-set_same, drop-drop}
+use lib.ListN.{length, get_or, take, drop, set, drop_of_length-le, replicate, length-append, length-drop, take-append-drop}
+use lib.Seq.{take-add, take-take, drop-drop, take-append-le, take-append-add, drop-append_seam, length-take-le}
+use Rattle.std.specs.List.{copy_within}
 use Rattle.ledger.specs.Ends.{falling}
 use Rattle.ledger.proofs.EndLaws.{falls-head, falls-tail}
-use Rattle.ledger_ends.proofs.LoopLaws.{at_drop}
 
 -- two neighbours set
 pub set-two : (l : List ℕ) (i a b : ℕ) → i + 2 ≤ length l → set (set l i a) (i + 1) b ≡ take i l ++ (a ∷ b ∷ drop (i + 2) l)
@@ -22,55 +21,51 @@ set-two [] zero a b h = absurd (omega arith)
 set-two (x ∷ []) zero a b h = absurd (omega arith)
 set-two [] (suc i) a b h = absurd (omega arith)
 
--- ends moved down by two places so far, and those left
-pub close-turn : (es e : List ℕ) (at i : ℕ) → length es ≡ 129 → length e ≡ 129 → i < 127 → drop i e ≡ drop i es
-    → take i e ++ drop (i + 2) es ≡ take at es ++ drop (at + 2) es
-    → take (i + 1) (set e i (get_or e (i + 2) 0)) ++ drop (i + 1 + 2) es ≡ take at es ++ drop (at + 2) es
-close-turn es e at i n m h same inv =
-    let v : get_or e (i + 2) 0 ≡ get_or es (i + 2) 0 = sym (get_or-drop i e 2 0) ∙ ap (λ (t : List ℕ). get_or t 2 0) same ∙ get_or-drop i es 2 0 in
-    let q : i + 1 + 2 ≡ i + 2 + 1 = omega arith in
-    let so : take i e ++ (get_or es (i + 2) 0 ∷ drop (i + 2 + 1) es) ≡ take at es ++ drop (at + 2) es = rw (at_drop es (i + 2) (omega arith)) at inv in
-    rw (v, q, add-one i, take-suc-set e i (get_or es (i + 2) 0) (omega arith), append_assoc) so
-
-pub close-keeps : (es e : List ℕ) (i x : ℕ) → drop i e ≡ drop i es → i < length e → i < length es → drop (i + 1) (set e i x) ≡ drop (i + 1) es
-close-keeps es e i x same h h' =
-    let so : get_or e i 0 ∷ drop (i + 1) e ≡ get_or es i 0 ∷ drop (i + 1) es = sym (at_drop e i h) ∙ same ∙ at_drop es i h' in
-    drop-set-lt (i + 1) e i x (omega arith) ∙ cc
-
-pub close-ends : (es e : List ℕ) (at i : ℕ) → length es ≡ 129 → length e ≡ 129 → i ≤ 127 → drop i e ≡ drop i es → take (127 - i) (drop i es) ≡ drop (i + 2) es
-    → take i e ++ drop (i + 2) es ≡ take at es ++ drop (at + 2) es
-    → set (set e 127 0) 128 0 ≡ take at es ++ (drop (at + 2) es ++ (0 ∷ 0 ∷ []))
-close-ends es e at i n m h same stay inv =
+-- the ends behind two places moved down onto them, as far as that changes any
+pub close-ends : (es : List ℕ) (at to : ℕ) → length es ≡ 129 → at ≤ to → to ≤ 127 → take (127 - to) (drop to es) ≡ drop (to + 2) es
+    → set (set (copy_within es (at + 2) (to + 2) at) 127 0) 128 0 ≡ take at es ++ (drop (at + 2) es ++ (0 ∷ 0 ∷ []))
+close-ends es at to n le h stay =
+    let k = to - at in
+    let moved = take k (drop (at + 2) es) in
+    let e = copy_within es (at + 2) (to + 2) at in
+    let many : to + 2 - (at + 2) ≡ k = omega arith in
+    let on : at + k ≡ to = omega arith in
+    let is : e ≡ (take at es ++ moved) ++ drop to es = rw (many, on) refl in
+    let head : length (take at es ++ moved) ≡ to =
+    omega (arith, length-append (take at es) moved, length-take-le at es (omega arith), length-take-le k (drop (at + 2) es) (omega (arith, length-drop (at + 2) es))) in
+    let long : length e ≡ 129 = ap length is ∙ omega (arith, length-append (take at es ++ moved) (drop to es), head, length-drop to es) in
     let none : drop 129 e ≡ [] = drop_of_length-le e {i = 129} (omega arith) in
-    let q : 127 ≡ i + (127 - i) = omega arith in
+    let q : 127 ≡ length (take at es ++ moved) + (127 - to) = omega arith in
+    let r : at + 2 + k ≡ to + 2 = omega arith in
+    let rest : moved ++ drop (to + 2) es ≡ drop (at + 2) es =
+    ap (λ (t : List ℕ). moved ++ t) (sym (drop-drop k (at + 2) es ∙ ap (λ (j : ℕ). drop j es) r)) ∙ take-append-drop k (drop (at + 2) es) in
     let front : take 127 e ≡ take at es ++ drop (at + 2) es =
-    ap (λ (k : ℕ). take k e) q ∙ take-add i (127 - i) e ∙ rw (same, stay) inv in
+    ap (λ (j : ℕ). take j e) q ∙ ap (λ (t : List ℕ). take (length (take at es ++ moved) + (127 - to)) t) is
+    ∙ take-append-add (take at es ++ moved) (drop to es) (127 - to)
+    ∙ ap (λ (t : List ℕ). (take at es ++ moved) ++ t) stay ∙ append_assoc (take at es) moved (drop (to + 2) es) ∙ ap (λ (t : List ℕ). take at es ++ t) rest in
     set-two e 127 0 0 (omega arith) ∙ rw (none, front) (append_assoc (take at es) (drop (at + 2) es) (0 ∷ 0 ∷ []))
 
--- ends moved up by two places so far, and those left
-pub open_turn : (es e : List ℕ) (i j : ℕ) → length es ≡ 129 → length e ≡ 129 → i ≤ 127 → i ≡ j + 1
-    → take (i + 2) e ≡ take (i + 2) es → drop (i + 2) e ≡ take (127 - i) (drop i es)
-    → (take (j + 2) (set e (j + 2) (get_or e j 0)) ≡ take (j + 2) es) × (drop (j + 2) (set e (j + 2) (get_or e j 0)) ≡ take (127 - j) (drop j es))
-open_turn es e i j n m h q front back =
-    let v : get_or e j 0 ≡ get_or es j 0 =
-    sym (get_or-take (i + 2) e j 0 (omega arith)) ∙ ap (λ (t : List ℕ). get_or t j 0) front ∙ get_or-take (i + 2) es j 0 (omega arith) in
-    let shorter : take (j + 2) e ≡ take (j + 2) es =
-    sym (take-take (j + 2) (i + 2) e (omega arith)) ∙ ap (λ (t : List ℕ). take (j + 2) t) front ∙ take-take (j + 2) (i + 2) es (omega arith) in
-    let next : j + 2 + 1 ≡ i + 2 = omega arith in
-    let one : 127 - j ≡ suc (127 - i) = omega arith in (
-      take-set-le (j + 2) e (j + 2) (get_or e j 0) (omega arith) ∙ shorter,
-      at_drop (set e (j + 2) (get_or e j 0)) (j + 2) (rw length-set (omega arith))
-          ∙ rw (get_or-set_same e (j + 2) (get_or e j 0) 0 (omega arith), next, drop-set-lt (i + 2) e (j + 2) (get_or e j 0) (omega arith), back, v, at_drop es j (omega arith), one, ← q) refl,
-    )
-
-pub open-ends : (es e : List ℕ) (at i last before : ℕ) → length es ≡ 129 → length e ≡ 129 → at + 2 ≤ 129 → i ≡ at
-    → take (i + 2) e ≡ take (i + 2) es → drop (i + 2) e ≡ take (127 - i) (drop i es)
-    → set (set e at last) (at + 1) before ≡ take at es ++ (last ∷ before ∷ take (127 - at) (drop at es))
-open-ends es e at i last before n m h q front back =
-    let shorter : take at e ≡ take at es =
-    sym (take-take at (i + 2) e (omega arith)) ∙ ap (λ (t : List ℕ). take at t) front ∙ take-take at (i + 2) es (omega arith) in
-    let back' : drop (at + 2) e ≡ take (127 - at) (drop at es) = rw q at back in
-    set-two e at last before (omega arith) ∙ rw (shorter, back') refl
+-- the ends from a place on moved up by two places, as far as that changes any
+pub open-ends : (es : List ℕ) (at to last before : ℕ) → length es ≡ 129 → at ≤ to → to ≤ 127 → take (127 - to) (drop to es) ≡ drop (to + 2) es
+    → set (set (copy_within es at to (at + 2)) at last) (at + 1) before ≡ take at es ++ (last ∷ before ∷ take (127 - at) (drop at es))
+open-ends es at to last before n le h stay =
+    let k = to - at in
+    let moved = take k (drop at es) in
+    let e = copy_within es at to (at + 2) in
+    let on : at + 2 + k ≡ to + 2 = omega arith in
+    let is : e ≡ take (at + 2) es ++ (moved ++ drop (to + 2) es) = rw on (append_assoc (take (at + 2) es) moved (drop (to + 2) es)) in
+    let head : length (take (at + 2) es) ≡ at + 2 = length-take-le (at + 2) es (omega arith) in
+    let long : at + 2 ≤ length e = omega (arith, ap length is, length-append (take (at + 2) es) (moved ++ drop (to + 2) es), head) in
+    let first : take at e ≡ take at es =
+    ap (λ (t : List ℕ). take at t) is ∙ take-append-le at (take (at + 2) es) (moved ++ drop (to + 2) es) (omega (arith, head)) ∙ take-take at (at + 2) es (omega arith) in
+    let back : drop (at + 2) e ≡ moved ++ drop (to + 2) es =
+    ap (λ (t : List ℕ). drop (at + 2) t) is ∙ ap (λ (j : ℕ). drop j (take (at + 2) es ++ (moved ++ drop (to + 2) es))) (sym head) ∙ drop-append_seam (take (at + 2) es) (moved ++ drop (to + 2) es) in
+    let r : 127 - at ≡ k + (127 - to) = omega arith in
+    let s : at + k ≡ to = omega arith in
+    let rest : moved ++ drop (to + 2) es ≡ take (127 - at) (drop at es) =
+    sym (ap (λ (j : ℕ). take j (drop at es)) r ∙ take-add k (127 - to) (drop at es)
+    ∙ ap (λ (t : List ℕ). moved ++ take (127 - to) t) (drop-drop k at es ∙ ap (λ (j : ℕ). drop j es) s) ∙ ap (λ (t : List ℕ). moved ++ t) stay) in
+    set-two e at last before long ∙ rw (first, back ∙ rest) refl
 
 -- behind an end that is 0 all are
 low_zeros : (b : ℕ) (es : List ℕ) → b ≤ 1 → falling b es ≡ true → es ≡ replicate (length es) 0

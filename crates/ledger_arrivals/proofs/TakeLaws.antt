@@ -7,12 +7,14 @@ use mathlib.Core.Bool.{Bool, true, false, ◌&&◌}
 use mathlib.Core.List.{List, [], ◌∷◌, ◌++◌, append_assoc}
 use lib.ListN.{length, get_or, take, drop, set, replicate, length-append, length-drop, take-append-drop}
 use lib.Seq.{length-take-le, set_split, take-append-le, take-append-add, append_snoc}
-use lib.Dec.{leb, ltb}
-use borrow.Author.Tests.{leb-true, leb-false, le-leb, lt-ltb, le-ltb}
+use lib.Dec.{leb, ltb, eqb}
+use borrow.Author.Tests.{eqb-true, eqb-false, leb-true, leb-false, le-leb, lt-ltb, le-ltb}
+use Rattle.std.specs.Prelude.{Ok, Err}
 use Rattle.ledger.specs.Ends.{places, ends_from, runs_in, turned, with_run, fitted}
 use Rattle.ledger.specs.Calls.{most_number, most_runs}
 use Rattle.ledger_arrivals.specs.Steps.{RoomAt, NoneBetween, Alone, taken_answer, taken_ends}
 use Rattle.ledger.specs.declared.Arrival.{Arrival}
+use Rattle.ledger.specs.declared.LedgerError.{LedgerError}
 use Rattle.ledger.proofs.EndLaws.{both_left, both_right, falls-far, falls-strictly, from-below, from-above, from-length}
 use Rattle.ledger_ends.proofs.LoopLaws.{at_drop}
 use Rattle.ledger.proofs.TurnLaws.{turn-out, turn_in, from-append, from-fewer, fitted-same}
@@ -52,7 +54,7 @@ fitted_short : (more : List ℕ) → length more + 2 ≡ places → fitted more 
 fitted_short more h = ap (λ (n : ℕ). take n (more ++ replicate places 0)) (sym h) ∙ take-append-add more (replicate places 0) 2
 
 -- what is answered and left when these ends fit
-taken-new : (more es left : List ℕ) → ltb most_runs (runs_in more) ≡ false → fitted more ≡ left → (Arrival.New ≡ taken_answer more) × (left ≡ taken_ends more es)
+taken-new : (more es left : List ℕ) → ltb most_runs (runs_in more) ≡ false → fitted more ≡ left → (Ok Arrival.New ≡ taken_answer more) × (left ≡ taken_ends more es)
 taken-new more es left few fit = (rw few refl, rw few (sym fit))
 
 module _ (at before last : ℕ) (es : List ℕ) (m : NoneBetween at before last es) where
@@ -99,7 +101,7 @@ module _ (at before last : ℕ) (es : List ℕ) (m : NoneBetween at before last 
 
   -- the run joins the stretch below, which ends higher
   pub taken-raises : ((0 < at) → get_or es (at - 1) 0 ≡ last → ⊥) → get_or es at 0 ≡ before
-      → (Arrival.New ≡ taken_answer (with_run before last es)) × (set es at last ≡ taken_ends (with_run before last es) es)
+      → (Ok Arrival.New ≡ taken_answer (with_run before last es)) × (set es at last ≡ taken_ends (with_run before last es) es)
   taken-raises hi lo =
       let more = take at es ++ (last ∷ drop (at + 1) es) in
       let is-more : with_run before last es ≡ more =
@@ -134,7 +136,7 @@ module _ (at before last : ℕ) (es : List ℕ) (a : Alone at before last es) wh
   count-more = two-more at before last es m a.apart_below
 
   -- there is no room for it
-  pub taken-full : (get_or es 127 0 ≡ 0 → ⊥) → (Arrival.Refused 22 ≡ taken_answer (with_run before last es)) × (es ≡ taken_ends (with_run before last es) es)
+  pub taken-full : (get_or es 127 0 ≡ 0 → ⊥) → (Err LedgerError.TooManyRuns ≡ taken_answer (with_run before last es)) × (es ≡ taken_ends (with_run before last es) es)
   taken-full full =
       let many : 127 < ends_from 1 es = from-above (most_number + 1) 1 es 127 m.falls (omega arith) (omega arith) in
       let over-most : ltb most_runs (runs_in more) ≡ true = lt-ltb most_runs (runs_in more) (omega (arith, count-more)) in
@@ -156,7 +158,7 @@ module _ (at before last : ℕ) (es : List ℕ) (a : Alone at before last es) wh
   }
 
   pub taken-opens : get_or es 127 0 ≡ 0 → (left : List ℕ) → left ≡ take at es ++ (last ∷ before ∷ take (127 - at) (drop at es))
-      → (Arrival.New ≡ taken_answer (with_run before last es)) × (left ≡ taken_ends (with_run before last es) es)
+      → (Ok Arrival.New ≡ taken_answer (with_run before last es)) × (left ≡ taken_ends (with_run before last es) es)
   unfolding more
   taken-opens room left is-left =
       let few : ends_from 1 es ≤ 127 = few-ends room in
@@ -193,7 +195,7 @@ module _ (at before : ℕ) (es : List ℕ) (m : NoneBetween (at + 1) before (get
 
   -- they are all of it: its two ends go
   pub taken-closes : (left : List ℕ) → get_or es (at + 1) 0 ≡ before → left ≡ take at es ++ (drop (at + 2) es ++ (0 ∷ 0 ∷ []))
-      → (Arrival.New ≡ taken_answer (with_run before (get_or es at 0) es)) × (left ≡ taken_ends (with_run before (get_or es at 0) es) es)
+      → (Ok Arrival.New ≡ taken_answer (with_run before (get_or es at 0) es)) × (left ≡ taken_ends (with_run before (get_or es at 0) es) es)
   taken-closes left lo is-left =
       let more = take at es ++ drop (at + 2) es in
       let next : at + 1 + 1 ≡ at + 2 = omega arith in
@@ -204,12 +206,20 @@ module _ (at before : ℕ) (es : List ℕ) (m : NoneBetween (at + 1) before (get
 
   -- some are left: it ends lower
   pub taken-lowers : (get_or es (at + 1) 0 ≡ before → ⊥)
-      → (Arrival.New ≡ taken_answer (with_run before (get_or es at 0) es)) × (set es at before ≡ taken_ends (with_run before (get_or es at 0) es) es)
+      → (Ok Arrival.New ≡ taken_answer (with_run before (get_or es at 0) es)) × (set es at before ≡ taken_ends (with_run before (get_or es at 0) es) es)
   taken-lowers lo =
       let more = take at es ++ (before ∷ drop (at + 1) es) in
       let is-more : with_run before (get_or es at 0) es ≡ more = joined ∙ ap (λ (t : List ℕ). take at es ++ t) (low-opens (at + 1) before (get_or es at 0) es m lo) in
       let long : length more ≡ places = omega (arith, m.whole, m.in_list, front_at, length-append (take at es) (before ∷ drop (at + 1) es), length-drop (at + 1) es) in
       rw is-more (taken-new more es (set es at before) (few-runs more (omega arith)) (fitted-same more long ∙ sym (set_split es at before (omega (arith, m.whole, m.in_list)) ∙ rw (add-one at) refl)))
+
+  -- and so there is room
+  pub taken-shortens : Ok Arrival.New ≡ taken_answer (with_run before (get_or es at 0) es)
+  taken-shortens = go (eqb (get_or es (at + 1) 0) before) refl
+    where
+      go : (t : Bool) → eqb (get_or es (at + 1) 0) before ≡ t → Ok Arrival.New ≡ taken_answer (with_run before (get_or es at 0) es)
+      go true p = (taken-closes (take at es ++ (drop (at + 2) es ++ (0 ∷ 0 ∷ []))) (eqb-true (get_or es (at + 1) 0) before p) refl).0
+      go false p = (taken-lowers (eqb-false (get_or es (at + 1) 0) before p)).0
 
 -- the numbers of a run that are the last ones of a missing stretch
 pub at-its-end : (at before last : ℕ) (es : List ℕ) → NoneBetween at before last es → 0 < at → get_or es (at - 1) 0 ≡ last

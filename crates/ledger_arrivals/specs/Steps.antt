@@ -1,8 +1,9 @@
 -- What the functions of an arrival hand on to each other.
-use Rattle.std.specs.Prelude.{ℕ, ◌+◌, ◌-◌, ◌≤◌, ◌<◌, ◌≡◌, true, cond, List, length, get_or, ltb}
+use Rattle.std.specs.Prelude.{ℕ, ◌+◌, ◌-◌, ◌≤◌, ◌<◌, ◌≡◌, true, cond, List, length, get_or, ltb, Result, Ok, Err}
 use Rattle.ledger.specs.Ends.{places, falling, ends_from, runs_in, fitted}
 use Rattle.ledger.specs.Calls.{most_number, most_runs}
 use Rattle.ledger.specs.declared.Arrival.{Arrival}
+use Rattle.ledger.specs.declared.LedgerError.{LedgerError}
 
 -- the ends of a record, and a place of it with one behind
 pub record RoomAt (at : ℕ) (es : List ℕ) : Type 0 where
@@ -26,8 +27,8 @@ pub record Alone (at before last : ℕ) (es : List ℕ) : Type 0 where
   pub apart_below : get_or es at 0 ≡ before → ⊥
 
 -- what recording leads to: more than 64 runs and no change, or these ends
-abbrev pub taken_answer : List ℕ → Arrival
-taken_answer more = cond (ltb most_runs (runs_in more)) (Arrival.Refused 22) Arrival.New
+abbrev pub taken_answer : List ℕ → Result Arrival LedgerError
+taken_answer more = cond (ltb most_runs (runs_in more)) (Err LedgerError.TooManyRuns) (Ok Arrival.New)
 
 abbrev pub taken_ends : List ℕ → List ℕ → List ℕ
 taken_ends more es = cond (ltb most_runs (runs_in more)) es (fitted more)

@@ -2,6 +2,7 @@
 ghost use Rattle.std.specs.Prelude.{◌≡◌, ◌∷◌, [], ◌++◌, ◌+◌, ◌-◌, ◌≤◌, take, drop};
 ghost use Rattle.ledger_arrivals.specs.Steps.{RoomAt};
 
+use ledger::PLACES;
 use ledger_ends::{FEW, SOME};
 
 // A place at or behind this one from which on moving ends by two places changes none: they are all 0, or there are no more.
@@ -9,17 +10,13 @@ fn reach(ends: &[u32], at: usize) -> usize
     requires { RoomAt at ends.now }
     ensures { (at ≤ result) × (result ≤ 127) × (take (127 - result) (drop result ends.now) ≡ drop (result + 2) ends.now) }
 {
-    if at < FEW {
-        if ends[FEW] == 0 {
-            return FEW;
-        }
+    if at < FEW && ends[FEW] == 0 {
+        return FEW;
     }
-    if at < SOME {
-        if ends[SOME] == 0 {
-            return SOME;
-        }
+    if at < SOME && ends[SOME] == 0 {
+        return SOME;
     }
-    127
+    PLACES - 2
 }
 
 // Takes the two ends from a place on away.
@@ -28,13 +25,9 @@ pub(crate) fn close(ends: &mut [u32], at: usize)
     ensures { ends.new ≡ take at ends.old ++ (drop (at + 2) ends.old ++ (0 ∷ 0 ∷ [])) }
 {
     let to = reach(ends, at);
-    let mut i = at;
-    while i < to {
-        ends[i] = ends[i + 2];
-        i += 1;
-    }
-    ends[127] = 0;
-    ends[128] = 0;
+    ends.copy_within(at + 2..to + 2, at);
+    ends[PLACES - 2] = 0;
+    ends[PLACES - 1] = 0;
 }
 
 // Puts two ends at a place; what the last two places held is gone.
@@ -42,11 +35,8 @@ pub(crate) fn open(ends: &mut [u32], at: usize, last: u32, before: u32)
     requires { RoomAt at ends.old }
     ensures { ends.new ≡ take at ends.old ++ (last ∷ before ∷ take (127 - at) (drop at ends.old)) }
 {
-    let mut i = reach(ends, at);
-    while at < i {
-        i -= 1;
-        ends[i + 2] = ends[i];
-    }
+    let to = reach(ends, at);
+    ends.copy_within(at..to, at + 2);
     ends[at] = last;
     ends[at + 1] = before;
 }

@@ -2,21 +2,22 @@
 use Prim.Native.Nat.{ℕ, ◌+◌, ◌-◌, ◌%◌, ◌≤◌, ◌<◌}
 use native.Mathlib.Omega.{arith}
 use mathlib.Core.Path.{◌≡◌, refl, sym, ap, ◌∙◌}
-use mathlib.Core.Bool.{Bool, true, false, cond, not, ◌&&◌}
+use mathlib.Core.Bool.{Bool, true, false, cond}
 use mathlib.Core.List.{List}
 use lib.ListN.{length, get_or, take, drop}
-use lib.Seq.{length-take-le}
 use lib.Dec.{ltb, eqb}
-use borrow.Author.Tests.{not-true, not-false, ltb-true, ltb-false, eqb-true, eq-eqb, ne_eqb}
+use borrow.Author.Tests.{ltb-true, ltb-false, eqb-true, eqb-false, eq-eqb}
+use Rattle.std.specs.Prelude.{Result, Ok, Err}
 use Rattle.ledger.specs.Ends.{places, falling, ends_from, floor_fits}
 use Rattle.ledger.specs.Calls.{most_number, valid}
 use Rattle.ledger.specs.declared.Ledger.{Ledger}
+use Rattle.ledger.specs.declared.LedgerError.{LedgerError}
 use Rattle.ledger.proofs.EndLaws.{both_left, from-below, from-above}
 use Rattle.ledger.proofs.TurnLaws.{from-fewer}
 use Rattle.ledger.proofs.FloorLaws.{Floor, Fits, no-floor, a-floor, fits-is, is-fits}
 use Rattle.ledger.proofs.ArriveLaws.{valid-is}
 use Rattle.ledger_ends.specs.Looking.{Reach, InOrder, found_in, seen_of}
-use Rattle.ledger_ends.specs.declared.Seen.{Seen}
+use Rattle.ledger_ends.specs.declared.Damage.{Damage}
 use Rattle.ledger_ends.proofs.UsedLaws.{counts-take}
 
 -- a floor fits the ends before a place where it fits all, those from it on being 0
@@ -69,61 +70,66 @@ module _ (floor given : ℕ) (es : List ℕ) (some : 1 ≤ given) where
               from-below (most_number + 1) (floor + 1) es (count - 1) w.falls (omega arith) (omega (arith, f.none-under)),
             ))
 
--- what is seen of a list with a record's places, and of any other nothing
-pub none_seen : (n : ℕ) (es : List ℕ) (floor given : ℕ) → (length es ≡ places → ⊥) → record { in_order = false; from = 0 } ≡ seen_of n es floor given
-none_seen n es floor given other = rw (ne_eqb (length es) places other) refl
+-- so many ends, in order or not
+abbrev found_by : ℕ → Bool → Result ℕ Damage
+found_by from t = cond t (Ok from) (Err (record { from = from }))
 
-module _ (n : ℕ) (es : List ℕ) (floor given : ℕ) (whole : length es ≡ places) (to : ℕ) (reach : Reach to n es) (s : Seen) (found : s ≡ found_in n (take to es)) where
-  -- as many ends as are looked at
-  reach-length : length (take to es) ≡ to
-  reach-length = length-take-le to es (omega (arith, reach.within))
+-- what is found of ends is Ok: they fall
+found-falls : (n from : ℕ) (es : List ℕ) → Ok from ≡ found_in n es → (falling (most_number + 1) es ≡ true) × (from ≡ ends_from n es)
+found-falls n from es is = go (falling (most_number + 1) es) refl is
+  where
+    go : (t : Bool) → falling (most_number + 1) es ≡ t → Ok from ≡ found_by (ends_from n es) t
+        → (falling (most_number + 1) es ≡ true) × (from ≡ ends_from n es)
+    go true p found = (p, cc)
+    go false p found = let z : ◌≡◌ {A = ℕ} 0 1 = cc in absurd (omega arith)
 
-  all : s ≡ found_in n es
-  all = found ∙ reach.found
+-- what is seen of a list with a record's places, by what is found of its ends within reach
+module _ (n : ℕ) (es : List ℕ) (floor given : ℕ) (whole : length es ≡ places) (to : ℕ) (reach : Reach to n es) where
+  -- they fall: the floor decides
+  pub seen-order : (from : ℕ) → Ok from ≡ found_in n (take to es) → (t : Bool) → t ≡ floor_fits floor given (take to es)
+      → found_by from t ≡ seen_of n es floor given
+  seen-order from found t is =
+      let order = found-falls n from es (found ∙ reach.found) in
+      rw (eq-eqb (length es) places whole, order.0, is ∙ fits-take floor given to es reach.zeros, order.1) refl
 
-  pub seen-disorder : not s.in_order ≡ true → s ≡ seen_of n es floor given
-  seen-disorder bad =
-      let no : falling (most_number + 1) es ≡ false = sym (ap (λ (t : Seen). t.in_order) all) ∙ not-true s.in_order bad in
-      all ∙ rw (eq-eqb (length es) places whole, no) refl
+-- a record with a record's places that is in order: it is valid, its ends fall, and so many are a number or above it
+pub record Found (n : ℕ) (l : Ledger) (from : ℕ) : Type 0 where
+  pub whole : length l.ends ≡ places
+  pub ok : valid l ≡ true
+  pub falls : falling (most_number + 1) l.ends ≡ true
+  pub count : from ≡ ends_from n l.ends
 
-  module _ (good : not s.in_order ≡ false) where
-    pub reach-order : InOrder (take to es)
-    reach-order = record { few = omega (arith, reach-length, reach.within); falls = sym (ap (λ (t : Seen). t.in_order) found) ∙ not-false s.in_order good }
+-- any other: the list has not those places, or the record is not valid
+pub record Refused (l : Ledger) (e : LedgerError) : Type 0 where
+  pub number : e ≡ LedgerError.Damaged
+  pub invalid : length l.ends ≡ places → valid l ≡ false
 
-    pub seen-order : (t : Bool) → t ≡ floor_fits floor given (take to es) → record { in_order = t; from = s.from } ≡ seen_of n es floor given
-    seen-order t is =
-        let yes : falling (most_number + 1) es ≡ true = sym (ap (λ (t : Seen). t.in_order) all) ∙ not-false s.in_order good in
-        rw (eq-eqb (length es) places whole, yes, is ∙ fits-take floor given to es reach.zeros, ap (λ (t : Seen). t.from) all) refl
+module _ (n : ℕ) (l : Ledger) where
+  abbrev seen_by : Bool → Bool → Result ℕ Damage
+  seen_by s t = cond s (found_by (ends_from n l.ends) t) (Err (record { from = 0 }))
 
-module _ (n : ℕ) (l : Ledger) (s : Seen) (seen : s ≡ seen_of n l.ends l.floor l.given) where
-  -- a record with those places is in order exactly if it is valid, and the count is told
-  pub seen-valid : length l.ends ≡ places → s.in_order ≡ valid l
-  seen-valid whole = ap (λ (t : Seen). t.in_order) seen ∙ rw (eq-eqb (length l.ends) places whole) (valid-is l)
+  seen-by : seen_of n l.ends l.floor l.given ≡ seen_by (eqb (length l.ends) places) (valid l)
+  seen-by = ap (λ t. seen_by (eqb (length l.ends) places) t) (valid-is l)
 
-  pub seen-from : length l.ends ≡ places → s.from ≡ ends_from n l.ends
-  seen-from whole = ap (λ (t : Seen). t.from) seen ∙ rw (eq-eqb (length l.ends) places whole) refl
+  pub seen-found : (from : ℕ) → Ok from ≡ seen_of n l.ends l.floor l.given → Found n l from
+  seen-found from is = go (eqb (length l.ends) places) refl (valid l) refl (is ∙ seen-by)
+    where
+      go : (s : Bool) → eqb (length l.ends) places ≡ s → (t : Bool) → valid l ≡ t → Ok from ≡ seen_by s t → Found n l from
+      go true p true q found =
+          record {
+            whole = eqb-true (length l.ends) places p;
+            ok = q;
+            falls = both_left (falling (most_number + 1) l.ends) (floor_fits l.floor l.given l.ends) (valid-is l ∙ q);
+            count = cc;
+          }
+      go true p false q found = let z : ◌≡◌ {A = ℕ} 0 1 = cc in absurd (omega arith)
+      go false p t q found = let z : ◌≡◌ {A = ℕ} 0 1 = cc in absurd (omega arith)
 
-  -- out of order: the list has not those places, or the record is not valid
-  pub seen-bad : not s.in_order ≡ true → length l.ends ≡ places → valid l ≡ false
-  seen-bad bad whole = sym (seen-valid whole) ∙ not-true s.in_order bad
-
-  -- in order: it has them, and is valid, and its ends fall
-  module _ (good : not s.in_order ≡ false) where
-    pub seen-whole : length l.ends ≡ places
-    seen-whole = eqb-true (length l.ends) places (go (eqb (length l.ends) places) (sym (ap (λ (t : Seen). t.in_order) seen) ∙ not-false s.in_order good))
-      where
-        all : Seen
-        all = record { in_order = falling (most_number + 1) l.ends && floor_fits l.floor l.given l.ends; from = ends_from n l.ends }
-
-        nothing : Seen
-        nothing = record { in_order = false; from = 0 }
-
-        go : (t : Bool) → (cond t all nothing).in_order ≡ true → t ≡ true
-        go true h = refl
-        go false h = h
-
-    pub seen-ok : valid l ≡ true
-    seen-ok = sym (seen-valid seen-whole) ∙ not-false s.in_order good
-
-    pub seen-falls : falling (most_number + 1) l.ends ≡ true
-    seen-falls = both_left (falling (most_number + 1) l.ends) (floor_fits l.floor l.given l.ends) (valid-is l ∙ seen-ok)
+  -- damage, whatever it counts, becomes a refusal by 20
+  pub seen-refused : (d : Damage) → Err d ≡ seen_of n l.ends l.floor l.given → (e : LedgerError) → e ≡ LedgerError.Damaged → Refused l e
+  seen-refused d is e number = go (eqb (length l.ends) places) refl (valid l) refl (is ∙ seen-by)
+    where
+      go : (s : Bool) → eqb (length l.ends) places ≡ s → (t : Bool) → valid l ≡ t → Err d ≡ seen_by s t → Refused l e
+      go true p true q found = let z : ◌≡◌ {A = ℕ} 0 1 = cc in absurd (omega arith)
+      go true p false q found = record { number = number; invalid = λ whole. q }
+      go false p t q found = record { number = number; invalid = λ whole. absurd (eqb-false (length l.ends) places p whole) }

@@ -10,9 +10,9 @@ use lib.Dec.{leb}
 use borrow.Author.Tests.{leb-false}
 use Rattle.ledger.specs.Ends.{falling, ends_from}
 use Rattle.ledger.specs.Calls.{most_number}
-use Rattle.ledger_ends.specs.Looking.{found_in}
 use Rattle.ledger.proofs.EndLaws.{falls-cons}
 use Rattle.ledger.proofs.TurnLaws.{from-append, from-fewer}
+use Rattle.ledger_ends.specs.Looking.{found_in}
 
 -- all ends from a place on are those up to the last
 pub rest : (k : ℕ) (es : List ℕ) → take (length es - k) (drop k es) ≡ drop k es

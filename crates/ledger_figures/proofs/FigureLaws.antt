@@ -1,49 +1,47 @@
--- The answers of the calls that ask, by what a look over the record has found.
+-- What a look over a record tells of its figures and runs.
 use Prim.Native.Nat.{ℕ, ◌+◌, ◌-◌, ◌*◌, ◌/◌, ◌≤◌, ◌<◌}
 use native.Mathlib.Omega.{arith}
-use mathlib.Core.Path.{◌≡◌, refl, sym, ap, ◌∙◌}
-use mathlib.Core.Bool.{true, false, not}
+use mathlib.Core.Path.{◌≡◌, refl, ◌∙◌}
+use mathlib.Core.Bool.{Bool, true, false}
 use lib.ListN.{length, get_or}
-use borrow.Author.Tests.{not-true, not-false, lt-ltb, le-ltb}
-use Rattle.ledger.specs.Ends.{places, ends_from, runs_in}
-use Rattle.ledger.specs.Calls.{most_number, valid, figure_by, figure_of, run_of}
+use Rattle.std.specs.Prelude.{Ok, Err}
+use Rattle.ledger.specs.Ends.{places, falling, ends_from, floor_fits}
+use Rattle.ledger.specs.Calls.{most_number, valid, figure_by, figure_of}
 use Rattle.ledger.specs.declared.Ledger.{Ledger}
-use Rattle.ledger.specs.declared.Figure.{Figure}
-use Rattle.ledger.specs.declared.RunAt.{RunAt}
-use Rattle.ledger.proofs.EndLaws.{from-length, falls-bound}
+use Rattle.ledger.specs.declared.LedgerError.{LedgerError}
+use Rattle.ledger.proofs.ArriveLaws.{valid-is}
+use Rattle.ledger.proofs.EndLaws.{both_left, from-length, falls-bound}
 use Rattle.ledger_ends.specs.Looking.{seen_of}
-use Rattle.ledger_ends.specs.declared.Seen.{Seen}
-use Rattle.ledger_ends.proofs.SeenLaws.{seen-valid, seen-falls, seen-from}
+use Rattle.ledger_ends.specs.declared.Damage.{Damage}
+use Rattle.ledger_ends.proofs.SeenLaws.{seen-found, seen-refused}
 
-module _ (l : Ledger) (s : Seen) (whole : length l.ends ≡ places) (seen : s ≡ seen_of 1 l.ends l.floor l.given) where
-  -- a record is in order where it is valid
-  in_order : s.in_order ≡ valid l
-  in_order = seen-valid 1 l s seen whole
+module _ (l : Ledger) (whole : length l.ends ≡ places) where
+  -- what is seen of a record that has its places is a figure of it
+  pub seen-figure : (x : ℕ) → Ok x ≡ seen_of 1 l.ends l.floor l.given → Ok x ≡ figure_of l (ends_from 1 l.ends)
+  seen-figure x is =
+      let found = seen-found 1 l x is in
+      rw (found.ok, found.count) refl
 
-  count : s.from ≡ ends_from 1 l.ends
-  count = seen-from 1 l s seen whole
+  -- and damage refuses it
+  pub seen-damaged : (d : Damage) → Err d ≡ seen_of 1 l.ends l.floor l.given → Err LedgerError.Damaged ≡ figure_of l (ends_from 1 l.ends)
+  seen-damaged d is =
+      let refused = seen-refused 1 l d is LedgerError.Damaged refl in
+      rw (refused.invalid whole) refl
 
-  -- a figure
-  pub seen-figure : (x y : ℕ) (r : Figure) → r ≡ figure_by s.in_order x → x ≡ y → r ≡ figure_of l y
-  seen-figure x y r is same = is ∙ rw (same, in_order) refl
-
-  pub seen-runs : s.from / 2 ≡ runs_in l.ends
-  seen-runs = ap (λ (k : ℕ). k / 2) count
-
-  -- a run: 20, 23 or its ends
-  pub run-refused : (k : ℕ) → not s.in_order ≡ true → RunAt.Refused 20 ≡ run_of l k
-  run-refused k bad = rw (sym in_order ∙ not-true s.in_order bad) refl
-
-  module _ (good : not s.in_order ≡ false) where
-    pub run_none : (k : ℕ) → s.from / 2 ≤ k → RunAt.Refused 23 ≡ run_of l k
-    run_none k le = rw (sym in_order ∙ not-false s.in_order good, le-ltb k (runs_in l.ends) (omega (arith, count))) refl
+  -- a figure that is told: the record is valid
+  module _ (x : ℕ) (is : Ok x ≡ figure_of l (ends_from 1 l.ends)) where
+    told : (valid l ≡ true) × (x ≡ ends_from 1 l.ends)
+    told = go (valid l) refl is
+      where
+        go : (t : Bool) → valid l ≡ t → Ok x ≡ figure_by t (ends_from 1 l.ends) → (valid l ≡ true) × (x ≡ ends_from 1 l.ends)
+        go true p found = (p, cc)
+        go false p found = let z : ◌≡◌ {A = ℕ} 0 1 = cc in absurd (omega arith)
 
     -- the place of a run's ends is in the list, and the run can be told
-    pub run-within : (k : ℕ) → k < s.from / 2 → 2 * (s.from / 2 - k) < places
-    run-within k lt = omega (arith, count, from-length 1 l.ends)
+    pub run-within : (k : ℕ) → k < x / 2 → 2 * (x / 2 - k) < places
+    run-within k lt = omega (arith, told.1, from-length 1 l.ends)
 
     pub end-small : (i : ℕ) → get_or l.ends i 0 ≤ most_number
-    end-small i = omega (arith, falls-bound (most_number + 1) l.ends i (seen-falls 1 l s seen good))
-
-    pub run-told : (k : ℕ) → k < s.from / 2 → RunAt.Run (get_or l.ends (2 * (s.from / 2 - k)) 0 + 1) (get_or l.ends (2 * (s.from / 2 - k) - 1) 0) ≡ run_of l k
-    run-told k lt = rw (sym in_order ∙ not-false s.in_order good, count, lt-ltb k (runs_in l.ends) (omega (arith, count))) refl
+    end-small i =
+        let falls = both_left (falling (most_number + 1) l.ends) (floor_fits l.floor l.given l.ends) (valid-is l ∙ told.0) in
+        omega (arith, falls-bound (most_number + 1) l.ends i falls)

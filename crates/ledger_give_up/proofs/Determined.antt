@@ -4,7 +4,8 @@ use contract.Lifetimes
 use borrow.Fn.World
 use borrow.Fn.Kinds as kinds
 use denote.Triple.Clauses
-use Rattle.ledger.specs.declared.GaveUp.{GaveUp}
+use Rattle.ledger.specs.declared.Run.{Run}
+use Rattle.ledger.specs.declared.Answered.{Answered}
 use Rattle.ledger_give_up.specs.contracts.give_up as give-up
 use Rattle.ledger_give_up.proofs.give_up.Kinds as give-up-kinds
 use Rattle.ledger_give_up.proofs.give_up.Reads as give-up-reads
@@ -24,8 +25,8 @@ pub determined-give-up-lent : (κs : Lifetimes.Lfts 3) (a : World.ArgsD lent.sig
     → (r₁ ≡ r₂) × (s₁.0.now ≡ s₂.0.now) × (s₁.1.0.now ≡ s₂.1.0.now) × (s₁.1.1.0.now ≡ s₂.1.1.0.now)
 determined-give-up-lent κs a r₁ r₂ s₁ s₂ p q =
     let same = p ∙ sym q in (
-      ap (λ (x : GaveUp). x.answer) same,
-      ap (λ (x : GaveUp). x.ledger.ends) same,
-      ap (λ (x : GaveUp). x.ledger.floor) same,
-      ap (λ (x : GaveUp). x.ledger.given) same,
+      ap (λ (x : Answered Run). x.answer) same,
+      ap (λ (x : Answered Run). x.ledger.ends) same,
+      ap (λ (x : Answered Run). x.ledger.floor) same,
+      ap (λ (x : Answered Run). x.ledger.given) same,
     )

@@ -1,44 +1,64 @@
 // A line that is being read, and the text about it that waits to be written.
-ghost use Rattle.std.specs.Prelude.{◌≡◌, ◌==◌, if◌then◌else◌};
+ghost use Rattle.std.specs.Prelude.{◌≡◌, is_ok, if◌then◌else◌};
 ghost use Rattle.std.specs.Process.{exit_status};
 ghost use Rattle.line_feed.specs.Beginning.{fresh_feed};
+ghost use Rattle.line_feed.specs.declared.feed.Failure.TheVariants.{Full};
 
 use lines::exchanges::Exchange;
+use std::fmt;
 use std::io::Write;
 use std::process::ExitCode;
+use walk::rows::RowsError;
 
 // The bytes of a program's input buffer, and of its output buffer.
 pub const LARGE: usize = 65_536;
 
-// Standard input could not be read.
-pub const READ: u8 = 1;
+// What failed.
+#[derive(Clone, Copy, Debug, PartialEq, Eq)]
+pub enum Failure {
+    // standard input could not be read
+    Read,
+    // standard output took no more
+    Write,
+    // a text was put that the output buffer has no room for
+    Cut,
+    // an argument that the program does not take
+    Argument,
+    // 16: the place would pass the largest number
+    Full,
+}
 
-// Standard output took no more.
-pub const WRITE: u8 = 2;
+impl fmt::Display for Failure {
+    fn fmt<W: fmt::Write>(&self, f: &mut fmt::Formatter<W>) -> fmt::Result {
+        match self {
+            Failure::Read => write!(f, "cannot read standard input"),
+            Failure::Write => write!(f, "cannot write standard output"),
+            Failure::Cut => write!(f, "a text has no room in the buffer"),
+            Failure::Argument => write!(f, "the only argument is derivatives-2015"),
+            Failure::Full => write!(f, "answer 16: the line is too long to count"),
+        }
+    }
+}
 
-// A text was put that the output buffer has no room for.
-pub const CUT: u8 = 3;
+impl From<RowsError> for Failure {
+    ghost from_gives = { λ _ e. e ≡ Full };
 
-// An argument that the program does not take.
-pub const ARGUMENT: u8 = 4;
+    fn from(_e: RowsError) -> Failure {
+        Failure::Full
+    }
+}
 
-// 16: the place would pass the largest number.
-pub const FULL: u8 = 16;
-
-// The small fields stand together, at the end: with a gap behind one of them a copy takes several times as long.
 #[derive(Clone, Copy)]
 pub struct Feed {
     // the bytes in hand that are not done with: from a place of the input buffer up to an end
     pub at: usize,
     pub end: usize,
-    // how many bytes of text wait in the output buffer
+    // how many bytes of text wait in the output buffer: a part of the state, so that the contract of `fresh` says that none do at first
     pub to: usize,
     // the last piece was shorter than the room for it, so the line may pause here
     pub short: bool,
     // no more bytes will come
     pub closed: bool,
-    // what failed, or 0
-    pub failure: u8,
     // whose line it is
     pub exchange: Exchange,
 }
@@ -54,27 +74,9 @@ impl Feed {
             to: 0,
             short: false,
             closed: false,
-            failure: 0,
             exchange,
         }
     }
-}
-
-// What failed, in words.
-fn words_of(failure: u8) -> &'static [u8] {
-    if failure == READ {
-        return b"cannot read standard input";
-    }
-    if failure == WRITE {
-        return b"cannot write standard output";
-    }
-    if failure == ARGUMENT {
-        return b"the only argument is derivatives-2015";
-    }
-    if failure == FULL {
-        return b"answer 16: the line is too long to count";
-    }
-    b"a text has no room in the buffer"
 }
 
 // Says a text on standard error, and answers the exit status of a program that had something to say there, said or not.
@@ -86,14 +88,17 @@ pub fn say<W: Write>(err: &mut W, text: &[u8]) -> ExitCode
 }
 
 // Says on standard error what failed in a program, if anything did, and answers the program's exit status.
-pub fn tell<W: Write>(err: &mut W, program: &[u8], failure: u8) -> ExitCode
-    ensures { exit_status result ≡ (if failure == 0 then 0 else 1) }
+pub fn tell<W: Write, F: fmt::Display + Drop>(
+    err: &mut W,
+    program: &[u8],
+    done: Result<(), F>,
+) -> ExitCode
+    ensures { exit_status result ≡ (if is_ok done then 0 else 1) }
 {
-    if failure == 0 {
+    let Err(failure) = done else {
         return ExitCode::SUCCESS;
-    }
+    };
     say(err, program);
-    say(err, b": ");
-    say(err, words_of(failure));
+    let _ = write!(err, ": {failure}");
     say(err, b"\n")
 }

@@ -2,10 +2,10 @@
 ghost use Rattle.std.specs.Prelude.{◌≡◌};
 ghost use Rattle.line_feed.specs.Beginning.{fresh_frames};
 
-use crate::feed::{FULL, Feed};
-use crate::input::read_on;
-use crate::output::{failed, relieved};
-use crate::places::{behind, between};
+use crate::feed::{Failure, Feed};
+use crate::input::Input;
+use crate::output::Output;
+use crate::pull::{Pull, next};
 use lines::exchanges::Exchange;
 use std::io::{Read, Write};
 use stock_frame::head::Head;
@@ -31,15 +31,6 @@ pub struct Framed {
     pub end: usize,
 }
 
-#[derive(Clone, Copy)]
-pub enum FramePull {
-    Frame(Frames, Framed),
-    // no more frames: the line has ended
-    End(Frames),
-    // the feed says what failed
-    Failed(Frames),
-}
-
 impl Frames {
     // At the beginning of a line of the stock exchange.
     pub fn fresh() -> Frames
@@ -48,113 +39,68 @@ impl Frames {
         let feed = Feed::fresh(Exchange::Stock);
         Frames { feed, place: 0 }
     }
-}
 
-// What the bytes in hand give.
-#[derive(Clone, Copy)]
-enum Hand {
-    One(Frames, Framed),
-    Nothing(Frames),
-    // 16: the place on the line would pass the largest number
-    Full(Frames),
-}
+    // The next frame of a line, none at its end, or what failed.
+    pub fn next<R: Read, W: Write>(
+        &mut self,
+        input: &mut Input<'_, R>,
+        output: &mut Output<'_, W>,
+    ) -> Result<Option<Framed>, Failure> {
+        next(self, input, output)
+    }
 
-// No frame stands before a place.
-fn skipped(s: Frames, to: usize) -> Hand {
-    let n = between(s.feed.at, to) as u64;
-    if u64::MAX - s.place < n {
-        return Hand::Full(s);
+    // The place on the whole line of a place of the input buffer at or behind the bytes that are done with.
+    fn place_of(&self, to: usize) -> Result<u64, Failure> {
+        let skipped = to.saturating_sub(self.feed.at);
+        self.place.checked_add(skipped as u64).ok_or(Failure::Full)
     }
-    let mut s = s;
-    s.place += n;
-    s.feed.at = to;
-    Hand::Nothing(s)
-}
 
-// The next one begins at a place.
-fn found(s: Frames, head: Head, from: usize) -> Hand {
-    let n = between(s.feed.at, from) as u64;
-    let length = head.length as u64;
-    if u64::MAX - s.place < n {
-        return Hand::Full(s);
-    }
-    let place = s.place + n;
-    if u64::MAX - place < length {
-        return Hand::Full(s);
-    }
-    let to = behind(from, head.length, s.feed.end);
-    let start = behind(from, 10, to);
-    let end = between(3, to);
-    let mut s = s;
-    s.place = place + length;
-    s.feed.at = to;
-    let framed = Framed {
-        head,
-        place,
-        from,
-        to,
-        start,
-        end,
-    };
-    Hand::One(s, framed)
-}
-
-// The next frame of the bytes in hand.
-fn in_hand(buf: &[u8], s: Frames) -> Hand {
-    let end = s.feed.end;
-    if buf.len() < end {
-        return Hand::Nothing(s);
-    }
-    match ahead(&buf[0..end], s.feed.at, s.feed.closed) {
-        Ahead::Frame(head, from) => found(s, head, from),
-        Ahead::Nothing(to) => skipped(s, to),
+    // The frame with a header that begins at a place.
+    fn found(&mut self, head: Head, from: usize) -> Result<Framed, Failure> {
+        let place = self.place_of(from)?;
+        let behind = place.checked_add(head.length as u64).ok_or(Failure::Full)?;
+        let to = from.saturating_add(head.length).min(self.feed.end);
+        self.place = behind;
+        self.feed.at = to;
+        Ok(Framed {
+            head,
+            place,
+            from,
+            to,
+            start: from.saturating_add(10).min(to),
+            end: to.saturating_sub(3),
+        })
     }
 }
 
-// 16, once the text that waits is written.
-fn given_up<W: Write>(output: &mut W, out: &[u8], s: Frames) -> FramePull {
-    let feed = s.feed;
-    let feed = failed(output, out, feed, FULL);
-    let mut s = s;
-    s.feed = feed;
-    FramePull::Failed(s)
-}
+impl Pull for Frames {
+    type Item = Framed;
 
-// The next frame of a line. The text in the output buffer is written where there is little room left, where the line pauses,
-// and before a failure is answered. A proved loop has to end, and nothing says that standard input does: the loop counts its
-// turns down from a number that no run uses up.
-pub fn next_frame<R: Read, W: Write>(
-    input: &mut R,
-    output: &mut W,
-    buf: &mut [u8],
-    out: &[u8],
-    s: Frames,
-) -> FramePull {
-    let mut s = s;
-    let feed = s.feed;
-    s.feed = relieved(output, out, feed);
-    let mut turns = u64::MAX;
-    while turns > 0 {
-        if s.feed.failure != 0 {
-            return FramePull::Failed(s);
-        }
-        match in_hand(buf, s) {
-            Hand::One(later, framed) => {
-                return FramePull::Frame(later, framed);
-            }
-            Hand::Nothing(rest) => {
-                if rest.feed.closed {
-                    return FramePull::End(rest);
-                }
-                let feed = rest.feed;
-                s = rest;
-                s.feed = read_on(input, output, buf, out, feed);
-            }
-            Hand::Full(rest) => {
-                return given_up(output, out, rest);
+    fn feed(&mut self) -> &mut Feed {
+        &mut self.feed
+    }
+
+    fn in_hand(&mut self, buf: &[u8]) -> Result<Option<Framed>, Failure> {
+        let Feed {
+            at,
+            end,
+            closed,
+            ..
+        } = self.feed;
+        let Some(hand) = buf.get(..end) else {
+            return Ok(None);
+        };
+        match ahead(hand, at, closed) {
+            Ahead::Frame(head, from) => Ok(Some(self.found(head, from)?)),
+            Ahead::Nothing(to) => {
+                self.place = self.place_of(to)?;
+                self.feed.at = to;
+                Ok(None)
             }
         }
-        turns -= 1;
     }
-    FramePull::Failed(s)
+
+    fn left_over(&mut self) -> Option<Framed> {
+        None
+    }
 }

@@ -1,42 +1,38 @@
 // A line's input in pieces.
-use crate::feed::{Feed, READ};
-use crate::output::{failed, written};
+use crate::feed::{Failure, Feed};
+use crate::output::Output;
 use printing::moving::move_down;
 use std::io::{Read, Write};
 
-// A line that pauses: what is known of it is written, so that it is seen while nothing comes.
-fn paused<W: Write>(output: &mut W, out: &[u8], f: Feed) -> Feed {
-    if f.short {
-        return written(output, out, f);
-    }
-    f
+// What a line is read from, and the buffer that its bytes in hand stand in.
+#[derive(Drop)]
+pub struct Input<'a, R> {
+    pub stream: &'a mut R,
+    pub buf: &'a mut [u8],
 }
 
-// With one piece more, behind the bytes in hand, which move to the front; or closed. One read gives what is there.
-pub(crate) fn read_on<R: Read, W: Write>(
-    input: &mut R,
-    output: &mut W,
-    buf: &mut [u8],
-    out: &[u8],
-    f: Feed,
-) -> Feed {
-    let f = paused(output, out, f);
-    if f.failure != 0 {
-        return f;
-    }
-    let waiting = move_down(buf, f.at, f.end);
-    if buf.len() <= waiting {
-        return failed(output, out, f, READ);
-    }
-    match input.read(&mut buf[waiting..]) {
-        Ok(more) => {
-            let mut f = f;
-            f.at = 0;
-            f.end = waiting + more;
-            f.closed = more == 0;
-            f.short = waiting + more < buf.len();
-            f
+impl Feed {
+    // Reads one piece more, behind the bytes in hand, which move to the front; or the end. One read gives what is there. Where the
+    // line pauses, what is known of it is written first, so that it is seen while nothing comes.
+    pub(crate) fn read_on<R: Read, W: Write>(
+        &mut self,
+        input: &mut Input<'_, R>,
+        output: &mut Output<'_, W>,
+    ) -> Result<(), Failure> {
+        if self.short {
+            self.written(output)?;
         }
-        Err(_) => failed(output, out, f, READ),
+        let waiting = move_down(input.buf, self.at, self.end);
+        if input.buf.len() <= waiting {
+            return Err(self.failed(output, Failure::Read));
+        }
+        let Ok(more) = input.stream.read(&mut input.buf[waiting..]) else {
+            return Err(self.failed(output, Failure::Read));
+        };
+        self.at = 0;
+        self.end = waiting + more;
+        self.closed = more == 0;
+        self.short = self.end < input.buf.len();
+        Ok(())
     }
 }

@@ -6,8 +6,8 @@
 pub mod asked;
 pub mod feed;
 pub mod frames;
-mod input;
+pub mod input;
 pub mod moves;
 pub mod output;
-mod places;
+mod pull;
 pub mod rows;

@@ -1,8 +1,8 @@
 -- What the laws of a line's turns are taken at, for a line of either exchange.
+use Rattle.std.specs.Prelude.{None}
 use Prim.Native.Nat.{ℕ}
 use mathlib.Core.Path.{◌≡◌}
 use mathlib.Core.List.{List, ◌∷◌}
-use Rattle.digits.specs.declared.halves.Place.TheVariants.{None}
 use Rattle.answers.specs.declared.Answer.TheVariants.{NoFrame}
 use Rattle.walk.specs.Sound.{Sound, LineReading}
 use Rattle.stock_lines.proofs.LineLaws as stock

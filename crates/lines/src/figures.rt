@@ -13,6 +13,7 @@ pub fn figures(exchange: Exchange, line: &[u8], closed: bool) -> Tally
 {
     let mut t = Tally::empty();
     let mut at = 0;
+    // no range: a turn goes past as many bytes as were met
     while at < line.len() {
         let answer = read(exchange, line, at);
         let n = past(answer, closed);

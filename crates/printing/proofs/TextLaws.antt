@@ -5,8 +5,10 @@ use mathlib.Core.Bool.{Bool, true, false, cond}
 use mathlib.Core.List.{List, [], ◌∷◌, ◌++◌, append_assoc, append-nil}
 use native.Mathlib.Omega.{arith}
 use native.Mathlib.Numerals.{add-one}
-use lib.ListN.{drop_of_length-le, length-drop, length, set, take, drop, get_or, length-set, length-append}
-use lib.Seq.{sets, length-sets, length-take-le, take-suc, take_all, set_out, drop-cons, drop-set-lt, get_or-set_same}
+use borrow.Rule.Slice.PartMut.{put_mid}
+use Rattle.std.proofs.lemmas.Slice.{put_mid-paste}
+use lib.ListN.{take-append-drop, drop_of_length-le, length-drop, length, set, take, drop, length-set, length-append}
+use lib.Seq.{sets, sets-eq, length-sets, length-take-le, take_all, set_out, drop-cons, drop-set-lt, get_or-set_same}
 use lib.Dec.{leb}
 use borrow.Author.Tests.{lt-leb, leb-true, leb-false}
 use Rattle.printing.specs.Text.{behind, Puts, last_digit, decimal_by}
@@ -77,33 +79,45 @@ puts-within text at r out after h p =
     let n : length after ≡ length out = ap length p.1 ∙ length-sets out at text in
     sym (length-take-le r after (omega (arith, n, p.0)))
 
--- ---- one byte, and the bytes of a text one after the other
+-- ---- one byte, and a text as far as there is room for it
 pub puts-byte : (b at : ℕ) (out : List ℕ) → at < length out → Puts (b ∷ []) at out (at + 1) (set out at b)
 puts-byte b at out h = (omega arith, refl)
 
 pub puts-no-byte : (b at : ℕ) (out : List ℕ) → length out ≤ at → Puts (b ∷ []) at out at out
 puts-no-byte b at out h = (omega arith, sym (set_out out at b h))
 
--- a text put up to a byte, and that byte
-pub puts-next : (text : List ℕ) (at i r q : ℕ) (out mid after : List ℕ) → i < length text → Puts (take i text) at out r mid → Puts (get_or text i 0 ∷ []) r mid q after
-    → Puts (take (i + 1) text) at out q after
-puts-next text at i r q out mid after h p s =
-    let grows : take (i + 1) text ≡ take i text ++ (get_or text i 0 ∷ []) = rw add-one (take-suc text i 0 h) in
-    rw grows (puts_then (take i text) (get_or text i 0 ∷ []) at r q out mid after p s)
-
--- the same where the byte finds room, and is stored
-pub puts-stored : (text : List ℕ) (at i : ℕ) (out mid : List ℕ) → i < length text → at + i < length mid → Puts (take i text) at out (at + i) mid
-    → Puts (take (i + 1) text) at out (at + (i + 1)) (set mid (at + i) (get_or text i 0))
-puts-stored text at i out mid h room p =
-    let next : at + i + 1 ≡ at + (i + 1) = omega arith in
-    subst (λ (to : ℕ). Puts (take (i + 1) text) at out to (set mid (at + i) (get_or text i 0))) next
-    (puts-next text at i (at + i) (at + i + 1) out mid (set mid (at + i) (get_or text i 0)) h p (puts-byte (get_or text i 0) (at + i) mid room))
-
 pub puts_none : (text : List ℕ) (at : ℕ) (out : List ℕ) → Puts (take 0 text) at out at out
 puts_none text at out = (omega arith, refl)
 
-pub puts_whole : (text : List ℕ) (at i r : ℕ) (out after : List ℕ) → length text ≤ i → Puts (take i text) at out r after → Puts text at out r after
-puts_whole text at i r out after h p = let all : take i text ≡ text = take_all i text h in let q : Puts text at out r after = subst (λ (l : List ℕ). Puts l at out r after) all p in q
+pub puts-past : (text : List ℕ) (at : ℕ) (out : List ℕ) → length out ≤ at → Puts text at out at out
+puts-past text at out h = (omega arith, sym (sets-out text at out h))
+
+-- what finds room is put, and the rest left out
+sets-taken : (text : List ℕ) (at n : ℕ) (out : List ℕ) → at < length out → n ≡ min (length text) (length out - at) → sets out at (take n text) ≡ sets out at text
+sets-taken text at n out h e = go (leb (length text) (length out - at)) refl
+  where
+    go : (t : Bool) → leb (length text) (length out - at) ≡ t → sets out at (take n text) ≡ sets out at text
+    go true p = ap (sets out at) (take_all n text (omega (arith, e, leb-true (length text) (length out - at) p)))
+    go false p =
+        let more : length out - at < length text = leb-false (length text) (length out - at) p in
+        let long : length (take n text) ≡ n = length-take-le n text (omega (arith, e)) in
+        let same : length (sets out at (take n text)) ≡ length out = length-sets out at (take n text) in
+        sym (ap (sets out at) (sym (take-append-drop n text)) ∙ sets-append (take n text) (drop n text) at out
+        ∙ sets-out (drop n text) (at + length (take n text)) (sets out at (take n text)) (omega (arith, same, long, e, more, h)))
+
+pub puts-part : (text : List ℕ) (at n k : ℕ) (out part : List ℕ) → at < length out → n ≡ min (length text) (length out - at) → k ≡ n → part ≡ take n text
+    → Puts text at out (at + n) (put_mid at k out part)
+puts-part text at n k out part h e j p =
+    let long : length (take n text) ≡ n = length-take-le n text (omega (arith, e)) in (
+      omega (arith, h, e),
+      put_mid-paste at k out part (take n text) n p (sym j) (sym long)
+          ∙ (λ i. take at out ++ take-all (take n text) n long i ++ drop (at + sym long i) out)
+          ∙ sym (sets-eq (take n text) out at (omega (arith, long, e, h)))
+          ∙ sets-taken text at n out h e,
+    )
+  where
+    take-all : (l : List ℕ) (m : ℕ) → length l ≡ m → take m l ≡ l
+    take-all l m q = take_all m l (omega (arith, q))
 
 -- ---- digits
 module _ (n i rest : ℕ) (digits : List ℕ) where

@@ -3,7 +3,7 @@
 
 pub mod moving;
 
-ghost use Rattle.std.specs.Prelude.{◌≡◌, [], ◌∷◌, ◌+◌, ◌≤◌, length, drop};
+ghost use Rattle.std.specs.Prelude.{◌≡◌, [], ◌∷◌, ◌≤◌, length, drop};
 ghost use Rattle.printing.specs.Text.{Puts, decimal, field};
 
 // One byte.
@@ -17,42 +17,17 @@ pub fn put(out: &mut [u8], at: usize, b: u8) -> usize
     at
 }
 
-// Some bytes that there is room for.
-fn put_whole(out: &mut [u8], at: usize, text: &[u8]) -> usize
-    requires { at + length text.now ≤ length out.old }
-    ensures { Puts text.now at out.old result out.new }
-{
-    let mut done = 0;
-    while done < text.len() {
-        out[at + done] = text[done];
-        done += 1;
-    }
-    at + done
-}
-
-// Some bytes, as far as there is room.
-fn put_part(out: &mut [u8], at: usize, text: &[u8]) -> usize
-    ensures { Puts text.now at out.old result out.new }
-{
-    let mut to = at;
-    let mut i = 0;
-    while i < text.len() {
-        to = put(out, to, text[i]);
-        i += 1;
-    }
-    to
-}
-
 // Some bytes.
 pub fn put_all(out: &mut [u8], at: usize, text: &[u8]) -> usize
     ensures { Puts text.now at out.old result out.new }
 {
-    if at <= out.len() {
-        if text.len() <= out.len() - at {
-            return put_whole(out, at, text);
-        }
+    if out.len() <= at {
+        return at;
     }
-    put_part(out, at, text)
+    let n = text.len().min(out.len() - at);
+    let end = at + n;
+    out[at..end].copy_from_slice(&text[..n]);
+    end
 }
 
 // A number in decimal digits, without leading zeros.
@@ -62,7 +37,7 @@ pub fn put_number(out: &mut [u8], at: usize, n: u64) -> usize
     if n <= 9 {
         return put(out, at, 48 + (n % 10) as u8);
     }
-    let mut digits = twenty();
+    let mut digits = [48; 20];
     let first = spell(n, &mut digits);
     put_all(out, at, &digits[first..])
 }
@@ -75,12 +50,6 @@ pub fn put_field(out: &mut [u8], at: usize, n: u64, end: u8) -> usize
     put(out, to, end)
 }
 
-fn twenty() -> [u8; 20]
-    ensures { length result ≡ 20 }
-{
-    [48; 20]
-}
-
 // The largest number of one digit.
 const ONE_DIGIT: u64 = 9;
 
@@ -89,16 +58,14 @@ fn spell(n: u64, digits: &mut [u8]) -> usize
     requires { length digits.old ≡ 20 }
     ensures { (length digits.new ≡ 20) × (result ≤ 20) × (drop result digits.new ≡ decimal n) }
 {
-    let mut i = 19;
     let mut rest = n;
-    while i > 0 {
+    for i in (1..20).rev() {
         digits[i] = 48 + (rest % 10) as u8;
         if rest <= ONE_DIGIT {
             return i;
         }
         rest /= 10;
-        i -= 1;
     }
-    digits[i] = 48 + (rest % 10) as u8;
-    i
+    digits[0] = 48 + (rest % 10) as u8;
+    0
 }

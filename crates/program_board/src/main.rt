@@ -3,100 +3,52 @@
 // found no row. Input of any length, in constant memory.
 #![tactic(auto)]
 
-mod messages;
+mod board;
 mod rows;
 
-ghost use Rattle.std.specs.Prelude.{◌≡◌, length};
-
+use board::Board;
 use line_feed::asked::is_given;
-use line_feed::feed::{Feed, LARGE, READ, say, tell};
-use line_feed::frames::{FramePull, Frames, next_frame};
-use line_feed::output::written;
-use messages::with_frame;
+use line_feed::feed::{Failure, LARGE, say, tell};
+use line_feed::frames::Frames;
+use line_feed::input::Input;
+use line_feed::output::Output;
 use rows::put_rows;
 use std::io::{Read, Write};
 use std::process::ExitCode;
-use stock_board_flat::{CELLS, ROWS};
 use stock_texts::counts::put_refused;
 
-// Puts a board and how many messages it refused, and answers what failed, or 0.
-fn put_board<W: Write>(
-    output: &mut W,
-    out: &mut [u8],
-    heads: &[u64],
-    cells: &[u32],
-    feed: Feed,
-    refused: u64,
-) -> u8 {
-    let mut feed = put_rows(output, out, heads, cells, feed);
-    if feed.failure != 0 {
-        return feed.failure;
-    }
-    let to = put_refused(out, feed.to, 52, refused);
-    feed.to = to;
-    let feed = written(output, out, feed);
-    feed.failure
-}
-
-// Hands a whole line to a board, then puts the board, and answers what failed, or 0. Nothing is put before all is heard.
+// Hands a whole line to a board, then puts the board and how many messages it refused. Nothing is put before all is heard.
 fn put_line<R: Read, W: Write>(
-    input: &mut R,
-    output: &mut W,
-    buf: &mut [u8],
-    out: &mut [u8],
-    heads: &mut [u64],
-    cells: &mut [u32],
-) -> u8 {
-    let mut refused = 0;
-    let mut s = Frames::fresh();
-    let mut turns = u64::MAX;
-    while turns > 0 {
-        match next_frame(input, output, buf, out, s) {
-            FramePull::Frame(later, framed) => {
-                refused = with_frame(refused, heads, cells, buf, framed);
-                s = later;
-            }
-            FramePull::End(last) => {
-                let feed = last.feed;
-                return put_board(output, out, heads, cells, feed, refused);
-            }
-            FramePull::Failed(last) => {
-                return last.feed.failure;
-            }
-        }
-        turns -= 1;
+    input: &mut Input<'_, R>,
+    output: &mut Output<'_, W>,
+) -> Result<(), Failure> {
+    let mut board = Board::clear();
+    let mut frames = Frames::fresh();
+    for _ in 0..u64::MAX {
+        let Some(framed) = frames.next(input, output)? else {
+            put_rows(output, &board, &mut frames.feed)?;
+            frames.feed.to = put_refused(output.out, frames.feed.to, 52, board.refused);
+            return frames.feed.written(output);
+        };
+        board.hear(input.buf, framed);
     }
-    READ
-}
-
-// The heads of a clear board, which is all zeros.
-fn clear_heads() -> [u64; ROWS]
-    ensures { 256 ≡ length result }
-{
-    [0; ROWS]
-}
-
-// Its cells.
-fn clear_cells() -> [u32; CELLS]
-    ensures { 6656 ≡ length result }
-{
-    [0; CELLS]
+    Err(Failure::Read)
 }
 
 fn report_board(rt: &HostRuntime) -> ExitCode {
+    // The five programs over a line begin so: one call would take the work as a closure, and have to ask that it may be called.
     let mut buf = [0u8; LARGE];
     let mut out = [0u8; LARGE];
-    let mut heads = clear_heads();
-    let mut cells = clear_cells();
-    let failure = put_line(
-        &mut rt.stdin(),
-        &mut rt.stdout(),
-        &mut buf,
-        &mut out,
-        &mut heads,
-        &mut cells,
-    );
-    tell(&mut rt.stderr(), b"board", failure)
+    let mut input = Input {
+        stream: &mut rt.stdin(),
+        buf: &mut buf,
+    };
+    let mut output = Output {
+        stream: &mut rt.stdout(),
+        out: &mut out,
+    };
+    let done = put_line(&mut input, &mut output);
+    tell(&mut rt.stderr(), b"board", done)
 }
 
 // It reads a line of the stock exchange, and none of another that an argument may name.

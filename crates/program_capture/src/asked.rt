@@ -36,21 +36,14 @@ fn asked_of_file(word: &[u8]) -> Asked {
 
 // Whether there is an argument of this number, the program's own name being 0.
 fn is_given<E: Env>(env: &E, i: usize) -> bool {
-    match env.arg(i, &mut []) {
-        Ok(_) => true,
-        Err(FillError::TooLong) => true,
-        Err(FillError::NotPresent) => false,
-    }
+    !matches!(env.arg(i, &mut []), Err(FillError::NotPresent))
 }
 
 // An argument, and how many bytes it has; none if it is not there or longer than the buffer.
 pub(crate) fn argument<E: Env>(env: &E, i: usize, buf: &mut [u8]) -> usize
     ensures { result ≤ length buf.new }
 {
-    match env.arg(i, buf) {
-        Ok(n) => n,
-        Err(_) => 0,
-    }
+    env.arg(i, buf).unwrap_or(0)
 }
 
 // Where the name has so many bytes. A word that is longer than these is read as no bytes.

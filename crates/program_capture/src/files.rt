@@ -1,9 +1,8 @@
 // Files: read whole, made, and written so that what is written is on the disk.
-ghost use Rattle.std.specs.Prelude.{◌≤◌, length};
+ghost use Rattle.std.specs.Prelude.{◌≡◌, ◌≤◌, length, IfOk};
 
-use crate::telling::{Telling, tell_closed, tell_failed, tell_taken};
+use crate::telling::{Act, Failure, Named, folder_of, put_other};
 use capture::SIZE;
-use printing::{put_all, put_number};
 use std::fs::{File, OpenOptions};
 use std::io::{ErrorKind, Read, Write};
 use std::os::fd::AsRawFd;
@@ -27,19 +26,29 @@ pub(crate) struct Filled {
     pub(crate) failed: Option<io::Error>,
 }
 
+impl Filled {
+    // How many bytes there are, where no read failed.
+    pub(crate) fn whole(self) -> io::Result<usize>
+        ensures { IfOk result (λ n. n ≡ self.count) }
+    {
+        match self.failed {
+            Some(why) => Err(why),
+            None => Ok(self.count),
+        }
+    }
+}
+
 // Reads until the buffer is full, the input ends or a read fails.
 pub(crate) fn fill<R: Read>(from: &mut R, buf: &mut [u8]) -> Filled
     ensures { result.count ≤ length buf.new }
 {
     let mut count = 0;
+    // a read may give any number of bytes, so that no range has the turns
     while count < buf.len() {
         match from.read(&mut buf[count..]) {
             Ok(more) => {
                 if more == 0 {
-                    return Filled {
-                        count,
-                        failed: None,
-                    };
+                    break;
                 }
                 count += more;
             }
@@ -59,10 +68,7 @@ pub(crate) fn fill<R: Read>(from: &mut R, buf: &mut [u8]) -> Filled
 
 // A name as std takes it, which has to be UTF-8.
 fn path_of(name: &[u8]) -> io::Result<&str> {
-    match from_utf8(name) {
-        Ok(path) => Ok(path),
-        Err(_) => Err(io::Error::from(ErrorKind::InvalidFilename)),
-    }
+    from_utf8(name).map_err(|_| io::Error::from(ErrorKind::InvalidFilename))
 }
 
 // Opens a file or a folder to be read.
@@ -106,202 +112,91 @@ pub(crate) fn store(file: &File, capture: &[u8], from: usize, to: usize) -> io::
     file.sync_data()
 }
 
-// Writes a fresh capture, all zeros, into a new file, waits until the disk has it, and closes the file.
-fn zeros_stored(told: &mut Telling, file: File, name: &[u8]) -> bool {
+// Writes a fresh capture, all zeros, into a new file of another name, waits until the disk has it, and closes the file.
+fn zeros_stored(mut file: File, n: usize) -> Result<(), Failure> {
     let zeros = [0u8; SIZE];
-    let mut file = file;
-    match file.write_all(&zeros) {
-        Ok(()) => {}
-        Err(why) => {
-            tell_failed(told, b"write", name, why);
-            return false;
-        }
-    }
-    match file.sync_all() {
-        Ok(()) => true,
-        Err(why) => {
-            tell_failed(told, b"sync", name, why);
-            false
-        }
-    }
+    file.write_all(&zeros)
+        .map_err(|why| Failure::Call(Act::Write, Named::Other(n), why))?;
+    file.sync_all()
+        .map_err(|why| Failure::Call(Act::Sync, Named::Other(n), why))
 }
 
-// What became of a file that was to be made.
-#[derive(Clone, Copy)]
-enum Made {
-    Done,
-    // it is said why not
-    Failed,
-    // there is a file of the other name
-    Taken,
+// Fills the file under its other name, and gives it its own once it is whole.
+fn whole(rt: &HostRuntime, file: File, name: &[u8], new: &[u8], n: usize) -> Result<(), Failure> {
+    zeros_stored(file, n)?;
+    rename(rt, new, name).map_err(|why| Failure::Call(Act::Make, Named::File, why))
 }
 
-// Gives the file its own name.
-fn renamed(rt: &HostRuntime, told: &mut Telling, name: &[u8], new: &[u8]) -> bool {
-    match rename(rt, new, name) {
-        Ok(()) => true,
-        Err(why) => {
-            tell_failed(told, b"make", name, why);
-            false
-        }
-    }
-}
-
-// Fills the file under its other name, and gives it its own once it is whole. If that fails it is removed.
-fn make_whole(rt: &HostRuntime, told: &mut Telling, file: File, name: &[u8], new: &[u8]) -> Made {
-    if zeros_stored(told, file, new) {
-        if renamed(rt, told, name, new) {
-            return Made::Done;
-        }
-    }
-    let _ = remove(rt, new);
-    Made::Failed
-}
-
-// Makes the file under another name.
-fn make_as(rt: &HostRuntime, told: &mut Telling, name: &[u8], new: &[u8]) -> Made {
+// Makes the file under another name; false where there is a file of that name. If it cannot be made whole it is removed.
+fn made_as(rt: &HostRuntime, name: &[u8], new: &[u8], n: usize) -> Result<bool, Failure> {
     match create(rt, new) {
-        Ok(file) => make_whole(rt, told, file, name, new),
-        Err(why) => {
-            if why.kind() == ErrorKind::AlreadyExists {
-                return Made::Taken;
+        Ok(file) => {
+            let made = whole(rt, file, name, new, n);
+            if made.is_err() {
+                let _ = remove(rt, new);
             }
-            tell_failed(told, b"make", new, why);
-            Made::Failed
+            made.map(|_| true)
         }
+        Err(why) if why.kind() == ErrorKind::AlreadyExists => Ok(false),
+        Err(why) => Err(Failure::Call(Act::Make, Named::Other(n), why)),
     }
 }
 
-fn make_named(rt: &HostRuntime, told: &mut Telling, name: &[u8], new: &[u8], to: usize) -> Made {
-    if to <= new.len() {
-        return make_as(rt, told, name, &new[0..to]);
-    }
-    Made::Failed
-}
-
-// The number of a name behind the first.
-fn put_try(out: &mut [u8], at: usize, n: usize) -> usize {
-    if n == 0 {
-        return at;
-    }
-    put_number(out, at, n as u64)
-}
-
-// Makes the file by the other name of this number. There is room for the longest name and what is put behind it.
-fn make_by(rt: &HostRuntime, told: &mut Telling, name: &[u8], n: usize) -> Made {
+// Makes the file by the other name of this number; false where there is a file of that name. There is room for the longest name and what is
+// put behind it.
+fn made_by(rt: &HostRuntime, name: &[u8], n: usize) -> Result<bool, Failure> {
     let mut new = [0u8; 4104];
-    let to = put_all(&mut new, 0, name);
-    let to = put_all(&mut new, to, b".new");
-    let to = put_try(&mut new, to, n);
-    make_named(rt, told, name, &new, to)
+    let to = put_other(&mut new, 0, name, n);
+    match new.get(..to) {
+        Some(new) => made_as(rt, name, new, n),
+        None => Err(Failure::NamesTaken),
+    }
 }
 
 // Makes the file of a fresh capture, by the first other name that is free. No file of such a name is changed: it may be a capture, and one
 // that another program appends to.
-fn make(rt: &HostRuntime, told: &mut Telling, name: &[u8]) -> bool {
-    let mut n = 0;
-    while n < NAMES {
-        match make_by(rt, told, name, n) {
-            Made::Done => return true,
-            Made::Failed => return false,
-            Made::Taken => n += 1,
+fn make(rt: &HostRuntime, name: &[u8]) -> Result<(), Failure> {
+    for n in 0..NAMES {
+        if made_by(rt, name, n)? {
+            return Ok(());
         }
     }
-    tell_taken(told, name);
-    false
+    Err(Failure::NamesTaken)
 }
 
-// The file that was just made; none once it is said why not.
-fn reopened(rt: &HostRuntime, told: &mut Telling, name: &[u8]) -> Option<File> {
+fn unopened(why: io::Error) -> Failure {
+    Failure::Call(Act::Open, Named::File, why)
+}
+
+// The file, made if it is not there.
+fn opened(rt: &HostRuntime, name: &[u8]) -> Result<File, Failure> {
     match open_to_update(rt, name) {
-        Ok(file) => Some(file),
-        Err(why) => {
-            tell_failed(told, b"open", name, why);
-            None
+        Err(why) if why.kind() == ErrorKind::NotFound => {
+            make(rt, name)?;
+            open_to_update(rt, name).map_err(unopened)
         }
+        opened => opened.map_err(unopened),
     }
 }
 
-// The file, made if it is not there; none once it is said why not.
-fn opened(rt: &HostRuntime, told: &mut Telling, name: &[u8]) -> Option<File> {
-    match open_to_update(rt, name) {
-        Ok(file) => Some(file),
-        Err(why) => {
-            if why.kind() != ErrorKind::NotFound {
-                tell_failed(told, b"open", name, why);
-                return None;
-            }
-            if !make(rt, told, name) {
-                return None;
-            }
-            reopened(rt, told, name)
-        }
-    }
-}
-
-// The file, unless it stands in for a standard stream that is closed: then it is closed, before anything is said.
-fn unless_standard(file: File) -> Option<File> {
+// The same, and no file that takes the place of a standard stream that is closed: what is said would be written into it. It is closed before
+// anything is said.
+pub(crate) fn open_to_append(rt: &HostRuntime, name: &[u8]) -> Result<File, Failure> {
+    let file = opened(rt, name)?;
     if file.as_raw_fd() <= STDERR {
-        return None;
+        return Err(Failure::Closed);
     }
-    Some(file)
-}
-
-// The same, and no file that takes the place of a standard stream that is closed: what is said would be written into it.
-pub(crate) fn open_to_append(rt: &HostRuntime, told: &mut Telling, name: &[u8]) -> Option<File> {
-    match opened(rt, told, name) {
-        None => None,
-        Some(file) => match unless_standard(file) {
-            Some(file) => Some(file),
-            None => {
-                tell_closed(told);
-                None
-            }
-        },
-    }
-}
-
-// Waits until the disk has the names in an open folder.
-fn names_synced(told: &mut Telling, file: File, folder: &[u8]) -> bool {
-    match file.sync_all() {
-        Ok(()) => true,
-        Err(why) => {
-            tell_failed(told, b"sync", folder, why);
-            false
-        }
-    }
-}
-
-// Waits until the disk has the names in a folder.
-fn folder_synced(rt: &HostRuntime, told: &mut Telling, folder: &[u8]) -> bool {
-    match open_to_read(rt, folder) {
-        Ok(file) => names_synced(told, file, folder),
-        Err(why) => {
-            tell_failed(told, b"open", folder, why);
-            false
-        }
-    }
-}
-
-// How many bytes of a name are the folder's.
-fn folder_bytes(name: &[u8]) -> usize
-    ensures { result ≤ length name.now }
-{
-    let mut n = name.len();
-    while n > 0 {
-        if name[n - 1] == b'/' {
-            return n;
-        }
-        n -= 1;
-    }
-    n
+    Ok(file)
 }
 
 // Waits until the disk has the file's name. Each run does, since the one that made the file may have been ended before it had.
-pub(crate) fn name_synced(rt: &HostRuntime, told: &mut Telling, name: &[u8]) -> bool {
-    let n = folder_bytes(name);
-    if n == 0 {
-        return folder_synced(rt, told, b".");
-    }
-    folder_synced(rt, told, &name[..n])
+pub(crate) fn name_synced(rt: &HostRuntime, name: &[u8]) -> Result<(), Failure> {
+    let folder = open_to_read(rt, folder_of(name)).map_err(|why| Failure::Call(
+        Act::Open,
+        Named::Folder,
+        why,
+    ))?;
+    folder
+        .sync_all()
+        .map_err(|why| Failure::Call(Act::Sync, Named::Folder, why))
 }

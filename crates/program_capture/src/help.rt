@@ -1,5 +1,5 @@
 // How the program is used, and what it promises.
-use crate::telling::{Telling, tell_output};
+use crate::telling::Failure;
 use std::io::Write;
 
 const HELP: &[u8] = b"usage: capture append FILE | show FILE | verify FILE | --help
@@ -33,13 +33,6 @@ That is as good as the word of the operating system, by fdatasync. Not covered a
 - the last bytes of standard input, up to 503, until there are 504 or the input ends.
 ";
 
-pub(crate) fn print_help<W: Write>(told: &mut Telling, output: &mut W) {
-    match output.write_all(HELP) {
-        Ok(()) => {}
-        Err(_) => tell_output(told),
-    }
-}
-
-pub(crate) fn tell_usage(told: &mut Telling) {
-    told.say(b"usage: capture append FILE | show FILE | verify FILE | --help\n");
+pub(crate) fn print_help<W: Write>(output: &mut W) -> Result<(), Failure> {
+    output.write_all(HELP).map_err(|_| Failure::Output)
 }

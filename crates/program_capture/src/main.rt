@@ -12,27 +12,31 @@ mod telling;
 
 use appending::append_to;
 use asked::{Asked, argument, asked_for};
-use help::{print_help, tell_usage};
+use help::print_help;
 use showing::{show, verify};
 use std::process::ExitCode;
-use telling::{Telling, tell_nameless};
+use telling::{Failure, tell};
 
 // Does what is asked for with the file of a name.
-fn run(rt: &HostRuntime, told: &mut Telling, asked: Asked, name: &[u8]) {
+fn run(rt: &HostRuntime, asked: Asked, name: &[u8]) -> Result<(), Failure> {
     match asked {
-        Asked::Append => append_to(rt, told, name),
-        Asked::Show => show(rt, told, name),
-        Asked::Verify => verify(rt, told, name),
-        Asked::Nameless => tell_nameless(told),
-        Asked::Help => print_help(told, &mut rt.stdout()),
-        Asked::Unknown => tell_usage(told),
+        Asked::Append => append_to(rt, name),
+        Asked::Show => show(rt, name),
+        Asked::Verify => verify(rt, name),
+        Asked::Nameless => Err(Failure::Nameless),
+        Asked::Help => print_help(&mut rt.stdout()),
+        Asked::Unknown => Err(Failure::Usage),
     }
 }
 
 fn main(rt: HostRuntime) -> ExitCode {
-    let mut told = Telling::new(rt.stderr());
     let mut name = [0u8; 4096];
     let n = argument(&rt, 2, &mut name);
-    run(&rt, &mut told, asked_for(&rt, n), &name[..n]);
-    told.status()
+    match run(&rt, asked_for(&rt, n), &name[..n]) {
+        Ok(()) => ExitCode::SUCCESS,
+        Err(failure) => {
+            tell(&mut rt.stderr(), failure, &name[..n]);
+            ExitCode::FAILURE
+        }
+    }
 }

@@ -1,49 +1,104 @@
-// What is said on standard error, a line at a time.
-ghost use Rattle.std.specs.Prelude.{◌≡◌, ◌≤◌, length};
+// What failed, and what is said of it on standard error, in one line.
+ghost use Rattle.std.specs.Prelude.{◌≤◌, length};
 
-use printing::{put, put_all, put_number};
+use capture::Unsound;
+use printing::{put_all, put_number};
 use std::io;
-use std::io::{Cursor, Stderr, Write};
-use std::process::ExitCode;
+use std::io::{Cursor, Write};
 use std::str::from_utf8;
 
-// Standard error, and whether there was something to say there, said or not: then the program ends with status 1.
+// The files that the program works with.
 #[derive(Clone, Copy)]
-pub(crate) struct Telling {
-    err: Stderr,
-    spoke: bool,
+pub(crate) enum Named {
+    File,
+    // the file while it is made, by the other name of this number
+    Other(usize),
+    // the folder of the file
+    Folder,
 }
 
-impl Telling {
-    pub(crate) fn new(err: Stderr) -> Telling {
-        Telling { err, spoke: false }
-    }
+// What is done with a file.
+#[derive(Clone, Copy)]
+pub(crate) enum Act {
+    Open,
+    Read,
+    Write,
+    Sync,
+    Make,
+}
 
-    // The program's exit status.
-    pub(crate) fn status(&self) -> ExitCode {
-        if self.spoke {
-            return ExitCode::FAILURE;
+impl Act {
+    fn verb(self) -> &'static [u8] {
+        match self {
+            Act::Open => b"open",
+            Act::Read => b"read",
+            Act::Write => b"write",
+            Act::Sync => b"sync",
+            Act::Make => b"make",
         }
-        ExitCode::SUCCESS
-    }
-
-    pub(crate) fn say(&mut self, text: &[u8]) {
-        self.spoke = true;
-        let _ = Write::write_all(&mut self.err, text);
     }
 }
 
-// Room for the longest name and for what is said of it.
-fn line() -> [u8; 4224]
-    ensures { 4224 ≡ length result }
+// Why the program does not do all that it was asked for.
+#[derive(Clone, Copy)]
+pub(crate) enum Failure {
+    // the file is no sound capture
+    Unsound(Unsound),
+    // 32, once so many bytes were taken
+    Full(usize),
+    // standard input could not be read on, once so many bytes were taken
+    Input(usize),
+    // standard output could not be written
+    Output,
+    // what could not be done with a file, and why
+    Call(Act, Named, io::Error),
+    // a block could not be written, once so many bytes were taken, and why
+    Unwritten(usize, io::Error),
+    // a file that is opened to be written must not stand in for a standard stream that is closed
+    Closed,
+    // the file could not be made under another name
+    NamesTaken,
+    // the name is empty or longer than its buffer
+    Nameless,
+    // other words, too few or too many
+    Usage,
+}
+
+impl From<Unsound> for Failure {
+    fn from(why: Unsound) -> Failure {
+        Failure::Unsound(why)
+    }
+}
+
+// How many bytes of a name are the folder's.
+fn folder_bytes(name: &[u8]) -> usize
+    ensures { result ≤ length name.now }
 {
-    [0; 4224]
+    for i in (0..name.len()).rev() {
+        if name[i] == b'/' {
+            return i + 1;
+        }
+    }
+    0
 }
 
-fn say(told: &mut Telling, text: &[u8], to: usize) {
-    if to <= text.len() {
-        told.say(&text[0..to]);
+// The folder of the file of a name.
+pub(crate) fn folder_of(name: &[u8]) -> &[u8] {
+    let n = folder_bytes(name);
+    if n == 0 {
+        return b".";
     }
+    &name[..n]
+}
+
+// The other name of a number, which the first has none behind it.
+pub(crate) fn put_other(out: &mut [u8], at: usize, name: &[u8], n: usize) -> usize {
+    let at = put_all(out, at, name);
+    let at = put_all(out, at, b".new");
+    if n == 0 {
+        return at;
+    }
+    put_number(out, at, n as u64)
 }
 
 // Why a call of the operating system failed, without the number that std puts behind it.
@@ -54,134 +109,122 @@ fn without_number(words: &str) -> &str {
     }
 }
 
-fn put_words(out: &mut [u8], at: usize, words: &[u8]) -> usize {
-    match from_utf8(words) {
-        Ok(words) => put_all(out, at, without_number(words).as_bytes()),
-        Err(_) => at,
-    }
-}
-
 // How many bytes were written at the start of a buffer.
 fn written(position: u64, room: &[u8]) -> usize
     ensures { result ≤ length room.now }
 {
     let most = room.len();
-    match usize::try_from(position) {
-        Ok(n) => n.min(most),
-        Err(_) => most,
+    usize::try_from(position).unwrap_or(most).min(most)
+}
+
+// A line, as far as it is put together: there is room for the longest name and for what is said of it.
+#[derive(Drop)]
+struct Line {
+    text: [u8; 4224],
+    to: usize,
+}
+
+impl Line {
+    fn put(&mut self, text: &[u8]) {
+        self.to = put_all(&mut self.text, self.to, text);
+    }
+
+    fn put_count(&mut self, n: usize) {
+        self.to = put_number(&mut self.text, self.to, n as u64);
+    }
+
+    // How many bytes were taken.
+    fn put_taken(&mut self, taken: usize) {
+        self.put_count(taken);
+        self.put(b" bytes were taken");
+    }
+
+    fn put_named(&mut self, which: Named, name: &[u8]) {
+        match which {
+            Named::File => self.put(name),
+            Named::Other(n) => self.to = put_other(&mut self.text, self.to, name, n),
+            Named::Folder => self.put(folder_of(name)),
+        }
+    }
+
+    // Why something failed.
+    fn put_why(&mut self, why: io::Error) {
+        self.put(b": ");
+        let mut words = Cursor::new([0u8; 320]);
+        let _ = write!(words, "{why}");
+        let position = words.position();
+        let text = words.into_inner();
+        let n = written(position, &text);
+        if let Ok(words) = from_utf8(&text[..n]) {
+            self.put(without_number(words).as_bytes());
+        }
+    }
+
+    // What failed, where the file has this name.
+    fn put_failure(&mut self, failure: Failure, name: &[u8]) {
+        match failure {
+            Failure::Unsound(Unsound::BadBlock(place)) => {
+                self.put(b"capture: block ");
+                self.put_count(place);
+                self.put(b" of ");
+                self.put(name);
+                self.put(b" is bad");
+            }
+            Failure::Unsound(Unsound::WrongSize) => {
+                self.put(b"capture: ");
+                self.put(name);
+                self.put(b" is not 65,536 bytes long");
+            }
+            Failure::Full(taken) => {
+                self.put(b"capture: ");
+                self.put(name);
+                self.put(b" is full: ");
+                self.put_taken(taken);
+            }
+            Failure::Input(taken) => {
+                self.put(b"capture: cannot read standard input: ");
+                self.put_taken(taken);
+            }
+            Failure::Output => self.put(b"capture: cannot write standard output"),
+            Failure::Call(act, which, why) => {
+                self.put(b"capture: cannot ");
+                self.put(act.verb());
+                self.put(b" ");
+                self.put_named(which, name);
+                self.put_why(why);
+            }
+            Failure::Unwritten(taken, why) => {
+                self.put(b"capture: cannot write ");
+                self.put(name);
+                self.put(b", ");
+                self.put_taken(taken);
+                self.put_why(why);
+            }
+            Failure::Closed => self.put(b"capture: standard input, output or error is closed"),
+            Failure::NamesTaken => {
+                self.put(b"capture: cannot make ");
+                self.put(name);
+                self.put(b": with .new to .new99 behind its name there are files already");
+            }
+            Failure::Nameless => {
+                self.put(b"capture: the name of FILE is empty, or longer than 4,096 bytes");
+            }
+            Failure::Usage => {
+                self.put(b"usage: capture append FILE | show FILE | verify FILE | --help");
+            }
+        }
     }
 }
 
-// Why something failed.
-fn put_why(out: &mut [u8], at: usize, why: io::Error) -> usize {
-    let mut words = Cursor::new([0u8; 320]);
-    let _ = write!(words, "{why}");
-    let position = words.position();
-    let text = words.into_inner();
-    let n = written(position, &text);
-    put_words(out, at, &text[..n])
-}
-
-// The text, and why something failed.
-fn say_why(told: &mut Telling, text: &mut [u8], to: usize, why: io::Error) {
-    let to = put_all(text, to, b": ");
-    let to = put_why(text, to, why);
-    let to = put(text, to, b'\n');
-    say(told, text, to);
-}
-
-// A text between two others.
-fn put_between(out: &mut [u8], at: usize, before: &[u8], text: &[u8], after: &[u8]) -> usize {
-    let at = put_all(out, at, before);
-    let at = put_all(out, at, text);
-    put_all(out, at, after)
-}
-
-// How many bytes were taken.
-fn put_taken(out: &mut [u8], at: usize, taken: usize) -> usize {
-    let at = put_number(out, at, taken as u64);
-    put_all(out, at, b" bytes were taken")
-}
-
-// 33
-pub(crate) fn tell_bad(told: &mut Telling, name: &[u8], place: usize) {
-    let mut text = line();
-    let to = put_all(&mut text, 0, b"capture: block ");
-    let to = put_number(&mut text, to, place as u64);
-    let to = put_between(&mut text, to, b" of ", name, b" is bad\n");
-    say(told, &text, to);
-}
-
-// 34
-pub(crate) fn tell_length(told: &mut Telling, name: &[u8]) {
-    let mut text = line();
-    let to = put_between(
-        &mut text,
-        0,
-        b"capture: ",
-        name,
-        b" is not 65,536 bytes long\n",
-    );
-    say(told, &text, to);
-}
-
-// 32
-pub(crate) fn tell_full(told: &mut Telling, name: &[u8], taken: usize) {
-    let mut text = line();
-    let to = put_between(&mut text, 0, b"capture: ", name, b" is full: ");
-    let to = put_taken(&mut text, to, taken);
-    let to = put_all(&mut text, to, b"\n");
-    say(told, &text, to);
-}
-
-// Standard input could not be read on.
-pub(crate) fn tell_input(told: &mut Telling, taken: usize) {
-    let mut text = line();
-    let to = put_all(&mut text, 0, b"capture: cannot read standard input: ");
-    let to = put_taken(&mut text, to, taken);
-    let to = put_all(&mut text, to, b"\n");
-    say(told, &text, to);
-}
-
-pub(crate) fn tell_output(told: &mut Telling) {
-    told.say(b"capture: cannot write standard output\n");
-}
-
-// A name that is empty or longer than its buffer.
-pub(crate) fn tell_nameless(told: &mut Telling) {
-    told.say(b"capture: the name of FILE is empty, or longer than 4,096 bytes\n");
-}
-
-// A file that is opened to be written must not stand in for one of these.
-pub(crate) fn tell_closed(told: &mut Telling) {
-    told.say(b"capture: standard input, output or error is closed\n");
-}
-
-// A file could not be made under another name.
-pub(crate) fn tell_taken(told: &mut Telling, name: &[u8]) {
-    let mut text = line();
-    let to = put_between(
-        &mut text,
-        0,
-        b"capture: cannot make ",
-        name,
-        b": with .new to .new99 behind its name there are files already\n",
-    );
-    say(told, &text, to);
-}
-
-// What could not be done with a file, and why.
-pub(crate) fn tell_failed(told: &mut Telling, verb: &[u8], name: &[u8], why: io::Error) {
-    let mut text = line();
-    let to = put_between(&mut text, 0, b"capture: cannot ", verb, b" ");
-    let to = put_all(&mut text, to, name);
-    say_why(told, &mut text, to, why);
-}
-
-// A block could not be written, and why.
-pub(crate) fn tell_stopped(told: &mut Telling, name: &[u8], taken: usize, why: io::Error) {
-    let mut text = line();
-    let to = put_between(&mut text, 0, b"capture: cannot write ", name, b", ");
-    let to = put_taken(&mut text, to, taken);
-    say_why(told, &mut text, to, why);
+// Says on standard error what failed, if it can be said.
+pub(crate) fn tell<W: Write>(err: &mut W, failure: Failure, name: &[u8]) {
+    let mut line = Line {
+        text: [0; 4224],
+        to: 0,
+    };
+    line.put_failure(failure, name);
+    line.put(b"\n");
+    if let Some(text) = line.text.get(..line.to) {
+        let _ = err.write_all(text);
+    }
 }

@@ -4,105 +4,55 @@
 #![tactic(auto)]
 
 mod arrivals;
-mod asked;
 mod report;
 
-use arrivals::{Day, with_frame};
-use asked::{Asked, asked_for};
-use ledger::Ledger;
-use line_feed::feed::{Feed, LARGE, READ, say, tell};
-use line_feed::frames::{FramePull, Frames, next_frame};
-use line_feed::output::written;
+use arrivals::Day;
+use line_feed::asked::is_asked;
+use line_feed::feed::{Failure, LARGE, say, tell};
+use line_feed::frames::Frames;
+use line_feed::input::Input;
+use line_feed::output::Output;
 use report::put_report;
 use std::io::{Read, Write};
 use std::process::ExitCode;
 
-// What a whole line has come to: its feed, and the day.
-#[derive(Clone, Copy)]
-struct Heard {
-    feed: Feed,
-    day: Day,
-}
-
-// Hears a whole line into a ledger. Nothing is put before all of it is heard.
-fn hear<R: Read, W: Write>(
-    input: &mut R,
-    output: &mut W,
-    buf: &mut [u8],
-    out: &[u8],
-    ends: &mut [u32],
-    gives_up: bool,
-) -> Heard {
-    let mut day = Day::fresh(gives_up);
-    let mut s = Frames::fresh();
-    let mut turns = u64::MAX;
-    while turns > 0 {
-        match next_frame(input, output, buf, out, s) {
-            FramePull::Frame(later, framed) => {
-                day = with_frame(day, ends, buf, framed);
-                s = later;
-            }
-            FramePull::End(last) => {
-                let feed = last.feed;
-                return Heard { feed, day };
-            }
-            FramePull::Failed(last) => {
-                let feed = last.feed;
-                return Heard { feed, day };
-            }
-        }
-        turns -= 1;
-    }
-    let mut feed = s.feed;
-    feed.failure = READ;
-    Heard { feed, day }
-}
-
-// Puts the report of a whole line, and answers what failed, or 0.
+// Hears a whole line, then puts its report. Nothing is put before all of it is heard.
 fn put_line<R: Read, W: Write>(
-    input: &mut R,
-    output: &mut W,
-    buf: &mut [u8],
-    out: &mut [u8],
+    input: &mut Input<'_, R>,
+    output: &mut Output<'_, W>,
     gives_up: bool,
-) -> u8 {
-    let fresh = ledger::clear();
-    let mut ends = fresh.ends;
-    let heard = hear(input, output, buf, out, &mut ends, gives_up);
-    let feed = heard.feed;
-    if feed.failure != 0 {
-        return feed.failure;
+) -> Result<(), Failure> {
+    let mut day = Day::fresh(gives_up);
+    let mut frames = Frames::fresh();
+    for _ in 0..u64::MAX {
+        let Some(framed) = frames.next(input, output)? else {
+            frames.feed.to = put_report(output.out, &day);
+            return frames.feed.written(output);
+        };
+        day.hear(input.buf, framed);
     }
-    let day = heard.day;
-    let ledger = Ledger {
-        ends,
-        floor: day.floor,
-        given: day.given,
-    };
-    let mut feed = feed;
-    let to = put_report(out, ledger, day);
-    feed.to = to;
-    let feed = written(output, out, feed);
-    feed.failure
+    Err(Failure::Read)
 }
 
 fn report_gaps(rt: &HostRuntime, gives_up: bool) -> ExitCode {
+    // The five programs over a line begin so: one call would take the work as a closure, and have to ask that it may be called.
     let mut buf = [0u8; LARGE];
     let mut out = [0u8; LARGE];
-    let failure = put_line(
-        &mut rt.stdin(),
-        &mut rt.stdout(),
-        &mut buf,
-        &mut out,
-        gives_up,
-    );
-    tell(&mut rt.stderr(), b"gaps", failure)
+    let mut input = Input {
+        stream: &mut rt.stdin(),
+        buf: &mut buf,
+    };
+    let mut output = Output {
+        stream: &mut rt.stdout(),
+        out: &mut out,
+    };
+    let done = put_line(&mut input, &mut output, gives_up);
+    tell(&mut rt.stderr(), b"gaps", done)
 }
 
 fn main(rt: HostRuntime) -> ExitCode {
-    match asked_for(&rt) {
-        Asked::Told => report_gaps(&rt, false),
-        Asked::GivenUp => report_gaps(&rt, true),
-        Asked::Unknown => say(&mut rt.stderr(), b"gaps: the only argument is give-up\n"),
+    match is_asked(&rt, b"give-up") {
+        Some(gives_up) => report_gaps(&rt, gives_up),
+        None => say(&mut rt.stderr(), b"gaps: the only argument is give-up\n"),
     }
 }

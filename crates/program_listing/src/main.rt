@@ -5,99 +5,56 @@
 
 mod rows;
 
-use line_feed::asked::{Asked, asked_for};
-use line_feed::feed::{ARGUMENT, LARGE, READ, tell};
-use line_feed::output::written;
-use line_feed::rows::{RowPull, Rows, next_row};
+use line_feed::asked::asked_for;
+use line_feed::feed::{Failure, LARGE, tell};
+use line_feed::input::Input;
+use line_feed::output::Output;
+use line_feed::rows::Rows;
 use lines::exchanges::Exchange;
 use rows::{put_header, put_row, put_total};
 use std::io::{Read, Write};
 use std::process::ExitCode;
-use walk::rows::Row;
 use walk::tally::Tally;
 
-// What a listing has come to.
-#[derive(Clone, Copy)]
-struct Listing {
-    rows: Rows,
-    total: Tally,
-}
-
-// With nothing but the header in the output buffer.
-fn begun(out: &mut [u8], exchange: Exchange) -> Listing {
-    let to = put_header(out, 0);
-    let mut rows = Rows::fresh(exchange);
-    rows.feed.to = to;
-    let total = Tally::empty();
-    Listing { rows, total }
-}
-
-// With one row more.
-fn with_row(out: &mut [u8], total: Tally, rows: Rows, row: Row) -> Listing {
-    let answer = row.answer;
-    let total = total.counted(answer, row.bytes);
-    let feed = rows.feed;
-    let exchange = feed.exchange;
-    let to = put_row(out, rows.feed.to, exchange, row);
-    let mut rows = rows;
-    rows.feed.to = to;
-    Listing { rows, total }
-}
-
-// With the total, all written; what failed, or 0.
-fn ended<W: Write>(output: &mut W, out: &mut [u8], total: Tally, rows: Rows) -> u8 {
-    let mut feed = rows.feed;
-    let to = put_total(out, feed.to, total);
-    feed.to = to;
-    let feed = written(output, out, feed);
-    feed.failure
-}
-
-// Puts the listing of a whole line of an exchange, and answers what failed, or 0.
+// Puts the listing of a whole line of an exchange.
 fn put_line<R: Read, W: Write>(
-    input: &mut R,
-    output: &mut W,
-    buf: &mut [u8],
-    out: &mut [u8],
+    input: &mut Input<'_, R>,
+    output: &mut Output<'_, W>,
     exchange: Exchange,
-) -> u8 {
-    let mut l = begun(out, exchange);
-    let mut turns = u64::MAX;
-    while turns > 0 {
-        let total = l.total;
-        let rows = l.rows;
-        match next_row(input, output, buf, out, rows) {
-            RowPull::Row(later, row) => {
-                l = with_row(out, total, later, row);
-            }
-            RowPull::End(last) => {
-                return ended(output, out, total, last);
-            }
-            RowPull::Failed(last) => {
-                return last.feed.failure;
-            }
-        }
-        turns -= 1;
+) -> Result<(), Failure> {
+    let mut rows = Rows::fresh(exchange);
+    let mut total = Tally::empty();
+    rows.feed.to = put_header(output.out, 0);
+    for _ in 0..u64::MAX {
+        let Some(row) = rows.next(input, output)? else {
+            rows.feed.to = put_total(output.out, rows.feed.to, total);
+            return rows.feed.written(output);
+        };
+        total = total.counted(row.answer, row.bytes);
+        rows.feed.to = put_row(output.out, rows.feed.to, exchange, row);
     }
-    READ
+    Err(Failure::Read)
 }
 
 fn list(rt: &HostRuntime, exchange: Exchange) -> ExitCode {
+    // The five programs over a line begin so: one call would take the work as a closure, and have to ask that it may be called.
     let mut buf = [0u8; LARGE];
     let mut out = [0u8; LARGE];
-    let failure = put_line(
-        &mut rt.stdin(),
-        &mut rt.stdout(),
-        &mut buf,
-        &mut out,
-        exchange,
-    );
-    tell(&mut rt.stderr(), b"listing", failure)
+    let mut input = Input {
+        stream: &mut rt.stdin(),
+        buf: &mut buf,
+    };
+    let mut output = Output {
+        stream: &mut rt.stdout(),
+        out: &mut out,
+    };
+    let done = put_line(&mut input, &mut output, exchange);
+    tell(&mut rt.stderr(), b"listing", done)
 }
 
 fn main(rt: HostRuntime) -> ExitCode {
     match asked_for(&rt) {
-        Asked::Line(exchange) => list(&rt, exchange),
-        Asked::Unknown => tell(&mut rt.stderr(), b"listing", ARGUMENT),
+        Some(exchange) => list(&rt, exchange),
+        None => tell(&mut rt.stderr(), b"listing", Err(Failure::Argument)),
     }
 }

@@ -34,8 +34,7 @@ fn put_frame(out: &mut [u8], at: usize, exchange: Exchange, answer: Answer) -> u
             let to = put_field(out, to, f.format as u64, b',');
             put_number(out, to, f.seq as u64)
         }
-        Answer::NoFrame(_, _) => put_all(out, at, b"-,-"),
-        Answer::Refused(_, _, _) => put_all(out, at, b"-,-"),
+        _ => put_all(out, at, b"-,-"),
     }
 }
 

@@ -4,78 +4,71 @@
 #![tactic(auto)]
 
 mod index;
+mod message;
 mod objects;
 
 use index::put_index_line;
-use line_feed::asked::{Asked, asked_for};
-use line_feed::feed::{ARGUMENT, LARGE, READ, tell};
-use line_feed::frames::{FramePull, Frames, next_frame};
-use line_feed::output::written;
+use line_feed::asked::asked_for;
+use line_feed::feed::{Failure, LARGE, tell};
+use line_feed::frames::Frames;
+use line_feed::input::Input;
+use line_feed::output::Output;
 use lines::exchanges::Exchange;
 use objects::put_framed;
 use std::io::{Read, Write};
 use std::process::ExitCode;
 
-// Puts the objects of a whole line of the stock exchange, and answers what failed, or 0.
+// Puts the objects of a whole line of the stock exchange. That of the derivatives exchange has a loop of its own: it pulls moves.
 fn put_line<R: Read, W: Write>(
-    input: &mut R,
-    output: &mut W,
-    buf: &mut [u8],
-    out: &mut [u8],
-) -> u8 {
-    let mut s = Frames::fresh();
-    let mut turns = u64::MAX;
-    while turns > 0 {
-        match next_frame(input, output, buf, out, s) {
-            FramePull::Frame(later, framed) => {
-                let to = put_framed(out, later.feed.to, buf, framed);
-                s = later;
-                s.feed.to = to;
-            }
-            FramePull::End(last) => {
-                let feed = last.feed;
-                let feed = written(output, out, feed);
-                return feed.failure;
-            }
-            FramePull::Failed(last) => {
-                return last.feed.failure;
-            }
-        }
-        turns -= 1;
+    input: &mut Input<'_, R>,
+    output: &mut Output<'_, W>,
+) -> Result<(), Failure> {
+    let mut frames = Frames::fresh();
+    for _ in 0..u64::MAX {
+        let Some(framed) = frames.next(input, output)? else {
+            return frames.feed.written(output);
+        };
+        // an array, so that its length is known where text is put: without it good frames take 5 in 100 instructions more
+        let Some(out) = output.out.first_chunk_mut::<LARGE>() else {
+            return Err(Failure::Cut);
+        };
+        frames.feed.to = put_framed(out, frames.feed.to, input.buf, framed);
     }
-    READ
+    Err(Failure::Read)
 }
 
-// The same of a line of an exchange.
+// The same of a line of an exchange, in the caller's code: there the streams' fields need no memory.
+#[inline(always)]
 fn put_messages<R: Read, W: Write>(
-    input: &mut R,
-    output: &mut W,
-    buf: &mut [u8],
-    out: &mut [u8],
+    input: &mut Input<'_, R>,
+    output: &mut Output<'_, W>,
     exchange: Exchange,
-) -> u8 {
+) -> Result<(), Failure> {
     match exchange {
-        Exchange::Stock => put_line(input, output, buf, out),
-        Exchange::Derivatives => put_index_line(input, output, buf, out),
+        Exchange::Stock => put_line(input, output),
+        Exchange::Derivatives => put_index_line(input, output),
     }
 }
 
 fn show(rt: &HostRuntime, exchange: Exchange) -> ExitCode {
+    // The five programs over a line begin so: one call would take the work as a closure, and have to ask that it may be called.
     let mut buf = [0u8; LARGE];
     let mut out = [0u8; LARGE];
-    let failure = put_messages(
-        &mut rt.stdin(),
-        &mut rt.stdout(),
-        &mut buf,
-        &mut out,
-        exchange,
-    );
-    tell(&mut rt.stderr(), b"messages", failure)
+    let mut input = Input {
+        stream: &mut rt.stdin(),
+        buf: &mut buf,
+    };
+    let mut output = Output {
+        stream: &mut rt.stdout(),
+        out: &mut out,
+    };
+    let done = put_messages(&mut input, &mut output, exchange);
+    tell(&mut rt.stderr(), b"messages", done)
 }
 
 fn main(rt: HostRuntime) -> ExitCode {
     match asked_for(&rt) {
-        Asked::Line(exchange) => show(&rt, exchange),
-        Asked::Unknown => tell(&mut rt.stderr(), b"messages", ARGUMENT),
+        Some(exchange) => show(&rt, exchange),
+        None => tell(&mut rt.stderr(), b"messages", Err(Failure::Argument)),
     }
 }

@@ -9,91 +9,58 @@ mod objects;
 mod reasons;
 mod runs;
 
-use line_feed::asked::{Asked, asked_for};
-use line_feed::feed::{ARGUMENT, LARGE, READ, tell};
-use line_feed::moves::{MovePull, next_move};
+use line_feed::asked::asked_for;
+use line_feed::feed::{Failure, LARGE, tell};
+use line_feed::input::Input;
+use line_feed::moves::Moves;
+use line_feed::output::Output;
 use lines::exchanges::Exchange;
-use objects::SHOWN;
-use runs::{Walked, ended, with_move};
+use runs::Run;
 use std::io::{Read, Write};
 use std::process::ExitCode;
 
-// What a line comes to by one move more.
-#[derive(Clone, Copy)]
-enum Turn {
-    On(Walked),
-    // at its end, or where something failed: what failed, or 0
-    Over(u8),
-}
-
-// Takes the next move of a line.
-fn turned<R: Read, W: Write>(
-    input: &mut R,
-    output: &mut W,
-    buf: &mut [u8],
-    out: &mut [u8],
-    first: &mut [u8],
-    w: Walked,
-) -> Turn {
-    let run = w.run;
-    let moves = w.moves;
-    match next_move(input, output, buf, out, moves) {
-        MovePull::Move(later, moved) => {
-            let walked = with_move(output, out, first, buf, run, later, moved);
-            Turn::On(walked)
-        }
-        MovePull::End(last) => {
-            let failure = ended(output, out, first, run, last);
-            Turn::Over(failure)
-        }
-        MovePull::Failed(last) => Turn::Over(last.feed.failure),
-    }
-}
-
-// Puts the objects of a whole line of an exchange, and answers what failed, or 0. The first bytes of a run are held in a buffer of
-// their own.
+// Puts the objects of a whole line of an exchange.
 fn put_line<R: Read, W: Write>(
-    input: &mut R,
-    output: &mut W,
-    buf: &mut [u8],
-    out: &mut [u8],
-    first: &mut [u8],
+    input: &mut Input<'_, R>,
+    output: &mut Output<'_, W>,
     exchange: Exchange,
-) -> u8 {
-    let mut w = Walked::fresh(exchange);
-    let mut turns = u64::MAX;
-    while turns > 0 {
-        match turned(input, output, buf, out, first, w) {
-            Turn::On(later) => {
-                w = later;
+) -> Result<(), Failure> {
+    let mut moves = Moves::fresh(exchange);
+    let mut run = Run::fresh();
+    for _ in 0..u64::MAX {
+        let Some(moved) = moves.next(input, output)? else {
+            moves.feed.to = run.put_last(output.out, moves.feed.to, exchange);
+            return moves.feed.written(output);
+        };
+        match run.put_moved(output.out, moves.feed.to, exchange, input.buf, moved) {
+            Ok(to) => {
+                moves.feed.to = to;
             }
-            Turn::Over(failure) => {
-                return failure;
-            }
+            Err(failure) => return Err(moves.feed.failed(output, failure)),
         }
-        turns -= 1;
     }
-    READ
+    Err(Failure::Read)
 }
 
 fn tell_why(rt: &HostRuntime, exchange: Exchange) -> ExitCode {
+    // The five programs over a line begin so: one call would take the work as a closure, and have to ask that it may be called.
     let mut buf = [0u8; LARGE];
     let mut out = [0u8; LARGE];
-    let mut first = [0u8; SHOWN];
-    let failure = put_line(
-        &mut rt.stdin(),
-        &mut rt.stdout(),
-        &mut buf,
-        &mut out,
-        &mut first,
-        exchange,
-    );
-    tell(&mut rt.stderr(), b"refusals", failure)
+    let mut input = Input {
+        stream: &mut rt.stdin(),
+        buf: &mut buf,
+    };
+    let mut output = Output {
+        stream: &mut rt.stdout(),
+        out: &mut out,
+    };
+    let done = put_line(&mut input, &mut output, exchange);
+    tell(&mut rt.stderr(), b"refusals", done)
 }
 
 fn main(rt: HostRuntime) -> ExitCode {
     match asked_for(&rt) {
-        Asked::Line(exchange) => tell_why(&rt, exchange),
-        Asked::Unknown => tell(&mut rt.stderr(), b"refusals", ARGUMENT),
+        Some(exchange) => tell_why(&rt, exchange),
+        None => tell(&mut rt.stderr(), b"refusals", Err(Failure::Argument)),
     }
 }

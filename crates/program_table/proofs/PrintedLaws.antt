@@ -1,6 +1,5 @@
 -- Entries put one after the other are the text of them all.
 use Prim.Native.Nat.{ℕ, suc, ◌+◌, ◌≤◌, ◌<◌}
-use mathlib.Core.Bool.{Bool, true, false}
 use mathlib.Core.List.{List, [], ◌∷◌, ◌++◌, append_assoc, append-nil}
 use mathlib.Core.Path.{◌≡◌, refl, ap, sym, subst, ◌∙◌}
 use native.Mathlib.Omega.{arith}
@@ -8,16 +7,8 @@ use native.Mathlib.Numerals.{add-one}
 use lib.ListN.{length, take, get_or}
 use lib.Seq.{take-suc, take_all, length-take-le}
 use Rattle.printing.specs.Text.{Puts}
-use Rattle.printing.proofs.TextLaws.{puts_then, puts_none}
-use Rattle.program_table.specs.Printed.{space, space_if, aligned, parting, entries_text, table_text}
-
--- a space that is wanted
-pub space-put : (wanted : Bool) (at r : ℕ) (out after : List ℕ) → wanted ≡ true → Puts (space ∷ []) at out r after → Puts (space_if wanted) at out r after
-space-put wanted at r out after w p = rw w p
-
--- one that is not
-pub space-left : (wanted : Bool) (at : ℕ) (out : List ℕ) → wanted ≡ false → Puts (space_if wanted) at out at out
-space-left wanted at out w = rw w (puts_none [] at out)
+use Rattle.printing.proofs.TextLaws.{puts_then}
+use Rattle.program_table.specs.Printed.{aligned, parting, entries_text, table_text}
 
 -- the text of one entry more
 entries_text-snoc : (b : ℕ) (xs : List ℕ) (x : ℕ) → entries_text b (xs ++ (x ∷ [])) ≡ entries_text b xs ++ (aligned x ++ (parting (b + length xs) ∷ []))

@@ -46,10 +46,8 @@ pub(crate) fn put_table(out: &mut [u8], at: usize) -> usize
 {
     let entries = table();
     let mut to = at;
-    let mut b = 0;
-    while b < 256 {
+    for b in 0..256 {
         to = put_entry(out, to, b, entries[b]);
-        b += 1;
     }
     to
 }

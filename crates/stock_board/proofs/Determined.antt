@@ -4,9 +4,12 @@ use contract.Lifetimes
 use borrow.Fn.World
 use borrow.Fn.Kinds as kinds
 use denote.Triple.Clauses
-use Rattle.stock_board.specs.contracts.LastTrade.after as trade-after
-use Rattle.stock_board.proofs.LastTrade.after.Kinds as trade-kinds
-use Rattle.stock_board.proofs.LastTrade.after.Reads as trade-reads
+use Rattle.stock_board.specs.contracts.trade_after as trade-after
+use Rattle.stock_board.proofs.trade_after.Kinds as trade-kinds
+use Rattle.stock_board.proofs.trade_after.Reads as trade-reads
+use Rattle.stock_board.specs.contracts.BoardError.number
+use Rattle.stock_board.proofs.BoardError.number.Kinds as number-kinds
+use Rattle.stock_board.proofs.BoardError.number.Reads as number-reads
 use Rattle.stock_board.specs.contracts.Row.free
 use Rattle.stock_board.proofs.Row.free.Kinds as free-kinds
 use Rattle.stock_board.proofs.Row.free.Reads as free-reads
@@ -14,9 +17,13 @@ use Rattle.stock_board.specs.contracts.Row.after
 use Rattle.stock_board.proofs.Row.after.Kinds as after-kinds
 use Rattle.stock_board.proofs.Row.after.Reads as after-reads
 
-pub determined-LastTrade-after : (κs : Lifetimes.Lfts 0) (a : World.ArgsD trade-after.signature κs) (r₁ r₂ : World.ResD trade-after.signature κs)
+pub determined-trade-after : (κs : Lifetimes.Lfts 0) (a : World.ArgsD trade-after.signature κs) (r₁ r₂ : World.ResD trade-after.signature κs)
     (s₁ s₂ : Clauses.AtExit (kinds.ended_of 0 trade-kinds.ps trade-kinds.r) κs) → trade-reads.Post κs a r₁ s₁ → trade-reads.Post κs a r₂ s₂ → r₁ ≡ r₂
-determined-LastTrade-after κs a r₁ r₂ s₁ s₂ p q = p ∙ sym q
+determined-trade-after κs a r₁ r₂ s₁ s₂ p q = p ∙ sym q
+
+pub determined-BoardError-number : (κs : Lifetimes.Lfts 0) (a : World.ArgsD number.signature κs) (r₁ r₂ : World.ResD number.signature κs)
+    (s₁ s₂ : Clauses.AtExit (kinds.ended_of 0 number-kinds.ps number-kinds.r) κs) → number-reads.Post κs a r₁ s₁ → number-reads.Post κs a r₂ s₂ → r₁ ≡ r₂
+determined-BoardError-number κs a r₁ r₂ s₁ s₂ p q = p ∙ sym q
 
 pub determined-Row-free : (κs : Lifetimes.Lfts 0) (a : World.ArgsD free.signature κs) (r₁ r₂ : World.ResD free.signature κs)
     (s₁ s₂ : Clauses.AtExit (kinds.ended_of 0 free-kinds.ps free-kinds.r) κs) → free-reads.Post κs a r₁ s₁ → free-reads.Post κs a r₂ s₂ → r₁ ≡ r₂

@@ -1,5 +1,5 @@
 -- A row of the board: code, time, last trade, both sides, limit and status bytes, total quantity; and what a message leaves of it.
-use Rattle.std.specs.Prelude.{ℕ, cond, List, replicate, eqb}
+use Rattle.std.specs.Prelude.{ℕ, cond, List, replicate, eqb, Option, Some, None}
 use Rattle.amounts.specs.Amounts.{as_quantity}
 use Rattle.amounts.specs.declared.Pair.{Pair}
 use Rattle.stock_quotes.specs.Reveal.{revealed, side_room}
@@ -7,8 +7,6 @@ use Rattle.stock_quotes.specs.Quotes.{no_pair}
 use Rattle.stock_quotes.specs.declared.Levels.{Levels}
 use Rattle.stock_quotes.specs.declared.Levels.TheVariants.{Shown, NotShown}
 use Rattle.stock_quotes.specs.declared.Quote.{Quote}
-use Rattle.stock_board.specs.declared.LastTrade.{LastTrade}
-use Rattle.stock_board.specs.declared.LastTrade.TheVariants.{NoneYet, At}
 use Rattle.stock_board.specs.declared.Side.{Side}
 use Rattle.stock_board.specs.declared.Row.{Row}
 
@@ -28,14 +26,14 @@ free_row = record {
   limit = 0;
   status = 0;
   total = as_quantity 0;
-  trade = NoneYet;
+  trade = None;
   bids = side 0 (replicate side_room no_pair);
   asks = side 0 (replicate side_room no_pair);
 }
 
 -- a frame with a trade pair tells the last trade; one without keeps it
-abbrev pub last_trade : LastTrade → Pair → ℕ → LastTrade
-last_trade last sent reveal = cond (eqb (revealed reveal).trades 0) last (At sent)
+abbrev pub last_trade : Option Pair → Pair → ℕ → Option Pair
+last_trade last sent reveal = cond (eqb (revealed reveal).trades 0) last (Some sent)
 
 -- a frame that shows its levels tells both sides, with no level too; one that does not keeps them
 abbrev pub side_after : Side → Levels → Side → Side

@@ -3,16 +3,13 @@
 
 ghost use Rattle.std.specs.Prelude.{◌≡◌};
 ghost use Rattle.stock_board.specs.Rows.{free_row, last_trade, side_after, row_after};
+ghost use Rattle.stock_board.specs.Board.{refusal_number};
 
 use amounts::{Pair, Quantity};
 use stock_quotes::{Levels, Quote, no_pair};
 
-// The last trade that a stock's messages sent.
-#[derive(Clone, Copy)]
-pub enum LastTrade {
-    NoneYet,
-    At(Pair),
-}
+// The rows of a board.
+pub const ROWS: usize = 256;
 
 // One side of a stock's book: its levels, best first, with zeros behind them, and how many there are.
 #[derive(Clone, Copy)]
@@ -30,53 +27,47 @@ pub struct Row {
     pub limit: u8,
     pub status: u8,
     pub total: Quantity,
-    pub trade: LastTrade,
+    // the last trade that the stock's messages sent, if any did
+    pub trade: Option<Pair>,
     pub bids: Side,
     pub asks: Side,
 }
 
-// What a call on a board answers.
-#[derive(Clone, Copy)]
-pub enum BoardAnswer {
-    // 0
-    Done,
-    // 50, 51, 14 or 52
-    Refused(u8),
+// Why a call on a board is refused; then no row changes.
+#[derive(Clone, Copy, Debug, PartialEq, Eq)]
+pub enum BoardError {
+    // the message could not be written
+    NotWritable,
+    // the board has not as many rows as a board has
+    WrongLength,
+    // there is no such row
+    NoRow,
+    // a new stock finds no row that is free
+    Full,
 }
 
-// The row that was asked for; the free row beside a refusal.
-#[derive(Clone, Copy)]
-pub struct Asked {
-    pub answer: BoardAnswer,
-    pub row: Row,
-}
-
-// How many rows are in use.
-#[derive(Clone, Copy)]
-pub enum InUse {
-    Rows(usize),
-    // 50
-    Refused(u8),
-}
-
-// What a message changes: the row at a place, which is behind the last one where no row changes.
-#[derive(Clone, Copy)]
-pub struct Change {
-    pub at: usize,
-    pub row: Row,
-    pub answer: BoardAnswer,
-}
-
-impl LastTrade {
-    // The last trade behind a message: the one that it sends, else the one before.
-    pub fn after(self, sent: Pair, reveal: u8) -> LastTrade
-        ensures { result ≡ last_trade self sent reveal }
+impl BoardError {
+    // Its number among those of all answers.
+    pub fn number(self) -> u8
+        ensures { result ≡ refusal_number self }
     {
-        if reveal / 128 % 2 == 0 {
-            return self;
+        match self {
+            BoardError::NotWritable => 14,
+            BoardError::WrongLength => 50,
+            BoardError::NoRow => 51,
+            BoardError::Full => 52,
         }
-        LastTrade::At(sent)
     }
+}
+
+// The last trade behind a message: the one that it sends, else the one before.
+pub fn trade_after(last: Option<Pair>, sent: Pair, reveal: u8) -> Option<Pair>
+    ensures { result ≡ last_trade last sent reveal }
+{
+    if reveal / 128 % 2 == 0 {
+        return last;
+    }
+    Some(sent)
 }
 
 // A side behind a message: the one that it shows, else the one before.
@@ -94,14 +85,9 @@ impl Row {
     pub fn free() -> Row
         ensures { result ≡ free_row }
     {
-        let none = no_pair();
-        let bids = Side {
+        let side = Side {
             count: 0,
-            levels: [none; 5],
-        };
-        let asks = Side {
-            count: 0,
-            levels: [none; 5],
+            levels: [no_pair(); 5],
         };
         Row {
             code: [0; 6],
@@ -109,9 +95,9 @@ impl Row {
             limit: 0,
             status: 0,
             total: Quantity(0),
-            trade: LastTrade::NoneYet,
-            bids,
-            asks,
+            trade: None,
+            bids: side,
+            asks: side,
         }
     }
 
@@ -120,40 +106,25 @@ impl Row {
         ensures { result ≡ row_after self m }
     {
         let code = m.code;
-        let last = self.trade;
-        let sent = m.trade;
-        let total = m.total;
-        let trade = last.after(sent, m.reveal);
-        let shown = m.levels;
         let levels = m.bids;
-        let bids = self.bids;
-        let bids = side_after(
-            bids,
-            shown,
-            Side {
-                count: m.reveal / 16 % 8,
-                levels,
-            },
-        );
+        let bids = Side {
+            count: m.reveal / 16 % 8,
+            levels,
+        };
         let levels = m.asks;
-        let asks = self.asks;
-        let asks = side_after(
-            asks,
-            shown,
-            Side {
-                count: m.reveal / 2 % 8,
-                levels,
-            },
-        );
+        let asks = Side {
+            count: m.reveal / 2 % 8,
+            levels,
+        };
         Row {
             code,
             time: m.time,
             limit: m.limit,
             status: m.status,
-            total,
-            trade,
-            bids,
-            asks,
+            total: m.total,
+            trade: trade_after(self.trade, m.trade, m.reveal),
+            bids: side_after(self.bids, m.levels, bids),
+            asks: side_after(self.asks, m.levels, asks),
         }
     }
 }

@@ -2,11 +2,13 @@
 use Prim.Native.Nat.{ℕ, zero, suc, ◌+◌, ◌*◌, ◌/◌, ◌%◌, ◌≤◌, ◌<◌}
 use mathlib.Core.Path.{◌≡◌, refl, sym, ap, ap₂, ◌∙◌}
 use mathlib.Core.Bool.{Bool, true, false, cond}
-use mathlib.Core.List.{List, [], ◌∷◌, ◌++◌}
+use mathlib.Core.List.{List, [], ◌∷◌, ◌++◌, append_assoc}
 use native.Mathlib.Omega.{arith}
 use lib.ListN.{length, get_or, set, take, drop, length-drop}
-use lib.Seq.{sets, length-sets, set-get_or, get_or-take, get_or-drop, take-take, drop-drop, length-take-le}
+use borrow.Rule.Slice.PartMut.{put_mid}
+use lib.Seq.{sets, sets-eq, length-sets, set-get_or, get_or-take, get_or-drop, take-take, drop-drop, length-take-le}
 use borrow.Author.Tests.{eq-eqb, ne_eqb}
+use Rattle.std.specs.Prelude.{Option, Some, None}
 use Rattle.digits.proofs.Bools.{no_false}
 use Rattle.layout.proofs.ListLaws.{listed, listed-is}
 use Rattle.layout.proofs.PutLaws.{sets_behind, drop-sets}
@@ -18,8 +20,6 @@ use Rattle.stock_quotes.specs.declared.Levels.TheVariants.{Shown, NotShown}
 use Rattle.stock_quotes.specs.declared.Quote.{Quote}
 use Rattle.stock_quotes.proofs.QuoteLaws.{written-levels}
 use Rattle.stock_quotes_numbers.specs.Numbers.{quote_amounts}
-use Rattle.stock_board.specs.declared.LastTrade.{LastTrade}
-use Rattle.stock_board.specs.declared.LastTrade.TheVariants.{NoneYet, At}
 use Rattle.stock_board.specs.declared.Row.{Row}
 use Rattle.stock_board.specs.declared.Side.{Side}
 use Rattle.stock_board.specs.Rows.{side, free_row, last_trade, row_after}
@@ -45,7 +45,7 @@ module _ (m : Quote) (shaped : ShapedQuote m) (right : legal six_codec m ≡ tru
 abbrev pub cells_by : List ℕ → Pair → ℕ → ℕ → List ℕ
 cells_by n trade shown time = get_or n 0 0 ∷ trade.price.0 ∷ trade.quantity.0 ∷ (drop 3 n ++ (shown ∷ time % half ∷ time / half ∷ []))
 
-abbrev row_with : Quote → LastTrade → Side → Side → Row
+abbrev row_with : Quote → Option Pair → Side → Side → Row
 row_with m trade bids asks = record {
   code = m.code;
   time = m.time;
@@ -57,7 +57,7 @@ row_with m trade bids asks = record {
   asks = asks;
 }
 
-pub cells-made : (last trade : LastTrade) (m : Quote) → OwnSides m → (n : List ℕ) (bit shown : ℕ) (p : Pair) → trade ≡ last_trade last m.trade m.reveal → n ≡ quote_amounts m → p ≡ pair_of trade
+pub cells-made : (last trade : Option Pair) (m : Quote) → OwnSides m → (n : List ℕ) (bit shown : ℕ) (p : Pair) → trade ≡ last_trade last m.trade m.reveal → n ≡ quote_amounts m → p ≡ pair_of trade
     → bit ≡ trade_bit trade → shown ≡ 128 * bit + (16 * (m.reveal / 16 % 8 % 8) + 2 * (m.reveal / 2 % 8 % 8)) → cells_by n p shown m.time ≡ cells_of (kept_of (row_after (with_trade last) m))
 unfolding kept_of row_after
 cells-made last trade m o n bit shown p t e q d s =
@@ -70,6 +70,12 @@ pub stored-by : (f : Flat) (at : ℕ) (row : Row) (m : Quote) (head : ℕ) (new 
     → new ≡ cells_of (kept_of (row_after row m)) → cells ≡ sets f.cells (26 * at) new → flat (set f.heads at head) cells ≡ stored_at f at (row_after row m)
 unfolding kept_of row_after
 stored-by f at row m head new cells h e c = ap₂ (λ (x : ℕ) (l : List ℕ). flat (set f.heads at x) l) h (c ∙ ap (sets f.cells (26 * at)) e)
+
+-- ---- numbers put over a part of a list
+pub put-sets : (a k : ℕ) (l ys vs : List ℕ) → ys ≡ vs → k ≡ length vs → a + length vs ≤ length l → put_mid a k l ys ≡ sets l a vs
+put-sets a k l ys vs e n h =
+    (λ j. take a l ++ (e j ++ drop (n j) (drop a l))) ∙ ap (λ (r : List ℕ). take a l ++ (vs ++ r)) (drop-drop (length vs) a l)
+    ∙ sym (append_assoc (take a l) vs (drop (a + length vs) l)) ∙ sym (sets-eq vs l a h)
 
 -- ---- numbers put where they stand change nothing, so those of the levels need not be put
 sets_same : (k i : ℕ) (l : List ℕ) → sets l i (listed k i 0 l) ≡ l
@@ -107,7 +113,7 @@ module _ (cells first last : List ℕ) (b : ℕ) (three : length first ≡ 3) (r
 
 -- the cells of a row behind a message that does not show its levels
 module _ (head : ℕ) (own : List ℕ) (m : Quote) (hidden : m.levels ≡ NotShown) where
-  abbrev after : LastTrade
+  abbrev after : Option Pair
   after = last_trade (trade_in own) m.trade m.reveal
 
   marks : (shown : ℕ) → shown ≡ get_or own 23 0 % 256 → last_cells after shown m.time ≡ last_cells after (shown_in own) m.time
@@ -127,17 +133,17 @@ module _ (f : Flat) (w : Whole f) (at : ℕ) (there : at < 256) (m : Quote) (hid
   abbrev mine : List ℕ
   mine = take 26 (drop (26 * at) f.cells)
 
-  pub trade-stored : (last trade : LastTrade) (shown head : ℕ) (ns ms c₁ c₂ : List ℕ) → last ≡ trade_in mine → trade ≡ last_trade last m.trade m.reveal → shown ≡ get_or f.cells (26 * at + 23) 0 % 256
+  pub trade-stored : (last trade : Option Pair) (shown head : ℕ) (ns ms c₁ c₂ : List ℕ) → last ≡ trade_in mine → trade ≡ last_trade last m.trade m.reveal → shown ≡ get_or f.cells (26 * at + 23) 0 % 256
       → head ≡ head_of m.code m.limit m.status → ns ≡ first_cells trade m → ms ≡ last_cells trade shown m.time
       → c₁ ≡ sets f.cells (26 * at) ns → c₂ ≡ sets c₁ (26 * at + 23) ms
       → flat (set f.heads at head) c₂ ≡ stored_at f at (row_after (row_in f at) m)
   trade-stored last trade shown head ns ms c₁ c₂ l t s h n e p q =
       let room : 26 * at + 26 ≤ length f.cells = omega (arith, w.cells-long) in
-      let t' : trade ≡ after (get_or f.heads at 0) mine m hidden = t ∙ ap (λ (x : LastTrade). last_trade x m.trade m.reveal) l in
-      let first : ns ≡ first_cells (after (get_or f.heads at 0) mine m hidden) m = n ∙ ap (λ (x : LastTrade). first_cells x m) t' in
+      let t' : trade ≡ after (get_or f.heads at 0) mine m hidden = t ∙ ap (λ (x : Option Pair). last_trade x m.trade m.reveal) l in
+      let first : ns ≡ first_cells (after (get_or f.heads at 0) mine m hidden) m = n ∙ ap (λ (x : Option Pair). first_cells x m) t' in
       let shown-there : shown ≡ get_or mine 23 0 % 256 = s ∙ ap (λ (x : ℕ). x % 256) (sym (get_or-take 26 (drop (26 * at) f.cells) 23 0 (omega arith) ∙ get_or-drop (26 * at) f.cells 23 0)) in
       let last' : ms ≡ last_cells (after (get_or f.heads at 0) mine m hidden) (shown_in mine) m.time =
-      e ∙ ap (λ (x : LastTrade). last_cells x shown m.time) t' ∙ marks (get_or f.heads at 0) mine m hidden shown shown-there in
+      e ∙ ap (λ (x : Option Pair). last_cells x shown m.time) t' ∙ marks (get_or f.heads at 0) mine m hidden shown shown-there in
       stored-by f at (row_in f at) m head _ c₂ h (kept-cells (get_or f.heads at 0) mine m hidden)
       (q ∙ ap₂ (λ (c : List ℕ) (x : List ℕ). sets c (26 * at + 23) x) (p ∙ ap (sets f.cells (26 * at)) first) last'
       ∙ levels-kept f.cells (first_cells (after (get_or f.heads at 0) mine m hidden) m) (last_cells (after (get_or f.heads at 0) mine m hidden) (shown_in mine) m.time) (26 * at) refl room)
@@ -153,7 +159,7 @@ unfolding row_after
 by-trade row m e = rw e
 
 -- of a row before a message that tells its sides only the last trade counts
-pub row-by-trade : (row : Row) (m : Quote) (l : Levels) (new : Bool) → m.levels ≡ l → keeps_sides l new ≡ false → row_after (with_trade (cond new NoneYet row.trade)) m ≡ row_after (cond new free_row row) m
+pub row-by-trade : (row : Row) (m : Quote) (l : Levels) (new : Bool) → m.levels ≡ l → keeps_sides l new ≡ false → row_after (with_trade (cond new None row.trade)) m ≡ row_after (cond new free_row row) m
 row-by-trade row m l true s e = refl
 row-by-trade row m Shown false s e = by-trade row m s
 row-by-trade row m NotShown false s e = absurd (no_false (sym e))
@@ -173,10 +179,10 @@ module _ (cells : List ℕ) (at : ℕ) where
   shown-is : shown_in own / 128 % 2 ≡ get_or cells (26 * at + 23) 0 % 256 / 128 % 2
   shown-is = omega (arith, cell 23 (omega arith))
 
-  pub trade-none : get_or cells (26 * at + 23) 0 % 256 / 128 % 2 ≡ 0 → NoneYet ≡ trade_in own
+  pub trade-none : get_or cells (26 * at + 23) 0 % 256 / 128 % 2 ≡ 0 → None ≡ trade_in own
   trade-none e = rw (eq-eqb (shown_in own / 128 % 2) 0 (shown-is ∙ e))
 
-  pub trade-there : (get_or cells (26 * at + 23) 0 % 256 / 128 % 2 ≡ 0 → ⊥) → At (pair (get_or cells (26 * at + 1) 0) (get_or cells (26 * at + 2) 0)) ≡ trade_in own
+  pub trade-there : (get_or cells (26 * at + 23) 0 % 256 / 128 % 2 ≡ 0 → ⊥) → Some (pair (get_or cells (26 * at + 1) 0) (get_or cells (26 * at + 2) 0)) ≡ trade_in own
   trade-there n =
       rw (ne_eqb (shown_in own / 128 % 2) 0 (λ e. n (sym shown-is ∙ e)))
-      (ap₂ (λ (p q : ℕ). At (pair p q)) (sym (cell 1 (omega arith))) (sym (cell 2 (omega arith))))
+      (ap₂ (λ (p q : ℕ). Some (pair p q)) (sym (cell 1 (omega arith))) (sym (cell 2 (omega arith))))

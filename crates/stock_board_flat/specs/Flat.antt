@@ -1,5 +1,5 @@
 -- The board as lists of numbers, one to a field: the rows that they hold, and a row put into them.
-use Rattle.std.specs.Prelude.{ℕ, ◌+◌, ◌*◌, ◌/◌, ◌%◌, Bool, ◌&&◌, List, [], ◌∷◌, ◌++◌, length, get_or, set, take, drop, eqb}
+use Rattle.std.specs.Prelude.{ℕ, ◌+◌, ◌*◌, ◌/◌, ◌%◌, Bool, ◌&&◌, List, [], ◌∷◌, ◌++◌, length, get_or, set, take, drop, eqb, cond, Option, is_some, unwrap_or}
 use Rattle.std.proofs.lemmas.List.Edits.{sets}
 use Rattle.amounts.specs.declared.Pair.{Pair}
 use Rattle.words.specs.Words.{bytes}
@@ -7,8 +7,6 @@ use Rattle.stock_quotes.specs.Quotes.{no_pair}
 use Rattle.stock_quotes.specs.declared.Levels.TheVariants.{Shown}
 use Rattle.stock_quotes.specs.declared.Quote.{Quote}
 use Rattle.stock_quotes_numbers.specs.Numbers.{quote_amounts, quote_from}
-use Rattle.stock_board.specs.declared.LastTrade.{LastTrade}
-use Rattle.stock_board.specs.declared.LastTrade.TheVariants.{NoneYet, At}
 use Rattle.stock_board.specs.declared.Row.{Row}
 use Rattle.stock_board.specs.Rows.{free_row, row_after}
 use Rattle.stock_board.specs.Board.{row_count}
@@ -39,13 +37,11 @@ marks_of head shown = take 6 (bytes 8 head) ++ (shown ∷ drop 6 (bytes 8 head))
 
 -- a row is kept as the quote that leaves it of a free row: its levels are shown, and bit 7 of its reveal byte says that there is a
 -- last trade
-abbrev pub pair_of : LastTrade → Pair
-pair_of NoneYet = no_pair
-pair_of (At p) = p
+abbrev pub pair_of : Option Pair → Pair
+pair_of trade = unwrap_or trade no_pair
 
-abbrev pub trade_bit : LastTrade → ℕ
-trade_bit NoneYet = 0
-trade_bit (At p) = 1
+abbrev pub trade_bit : Option Pair → ℕ
+trade_bit trade = cond (is_some trade) 1 0
 
 abbrev pub shown_of : Row → ℕ
 shown_of row = 128 * trade_bit row.trade + (16 * (row.bids.count % 8) + 2 * (row.asks.count % 8))

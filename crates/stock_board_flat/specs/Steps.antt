@@ -1,21 +1,18 @@
 -- What the steps of a call hand on to each other.
-use Rattle.std.specs.Prelude.{ℕ, suc, ◌+◌, ◌*◌, ◌/◌, ◌%◌, ◌<◌, ◌≡◌, Bool, true, false, cond, not, List, [], ◌∷◌, length, get_or, take, drop, eqb, ltb}
+use Rattle.std.specs.Prelude.{ℕ, suc, ◌+◌, ◌*◌, ◌/◌, ◌%◌, ◌<◌, ◌≡◌, Bool, true, false, cond, not, List, [], ◌∷◌, length, get_or, take, drop, eqb, ltb, Option, Some, None, Result, Ok, Err}
+use Rattle.amounts.specs.declared.Pair.{Pair}
 use Rattle.stock_frame.specs.Codec.{legal}
 use Rattle.stock_quotes.specs.Reveal.{revealed}
 use Rattle.stock_quotes.specs.Quotes.{six_codec}
 use Rattle.stock_quotes.specs.declared.Levels.{Levels}
 use Rattle.stock_quotes.specs.declared.Quote.{Quote}
 use Rattle.stock_quotes_numbers.specs.Numbers.{pair_at}
-use Rattle.stock_board.specs.declared.LastTrade.{LastTrade}
-use Rattle.stock_board.specs.declared.LastTrade.TheVariants.{NoneYet}
 use Rattle.stock_board.specs.declared.Row.{Row}
-use Rattle.stock_board.specs.declared.Asked.{Asked}
-use Rattle.stock_board.specs.declared.BoardAnswer.{BoardAnswer}
-use Rattle.stock_board.specs.declared.BoardAnswer.TheVariants.{Done, Refused}
+use Rattle.stock_board.specs.declared.BoardError.{BoardError}
 use Rattle.stock_board.specs.Rows.{side, free_row, last_trade, side_after, row_after}
 use Rattle.stock_board.specs.Board.{row_count}
-use Rattle.stock_board_flat.specs.Flat.{Flat, per_row, whole, pair_of, trade_bit, half, shown_in, row_from, rows_of}
-use Rattle.stock_board_flat.specs.Calls.{change_flat, asked_flat, row_at_flat}
+use Rattle.stock_board_flat.specs.Flat.{Flat, per_row, pair_of, trade_bit, half, shown_in, row_from, rows_of}
+use Rattle.stock_board_flat.specs.Calls.{change_flat}
 use Rattle.stock_board_flat.specs.declared.placing.Place.{Place}
 
 -- the lists as one
@@ -52,7 +49,7 @@ pub record Whole (f : Flat) : Type 0 where
   pub cells-long : length f.cells ≡ row_count * per_row
 
 -- a free row but for its last trade; of a row before a message that tells its sides nothing else counts
-abbrev pub with_trade : LastTrade → Row
+abbrev pub with_trade : Option Pair → Row
 with_trade last = record {
   code = free_row.code;
   time = 0;
@@ -65,8 +62,8 @@ with_trade last = record {
 }
 
 -- the last trade in a row's cells
-abbrev pub trade_in : List ℕ → LastTrade
-trade_in cells = last_trade NoneYet (pair_at cells 1) (shown_in cells)
+abbrev pub trade_in : List ℕ → Option Pair
+trade_in cells = last_trade None (pair_at cells 1) (shown_in cells)
 
 -- a message's own sides are those of a new row behind it: it shows them, or there are none
 pub record OwnSides (m : Quote) : Type 0 where
@@ -79,10 +76,10 @@ keeps_sides Levels.Shown new = false
 keeps_sides Levels.NotShown new = not new
 
 -- a row's cells before its levels, and behind them, where the levels stay
-abbrev pub first_cells : LastTrade → Quote → List ℕ
+abbrev pub first_cells : Option Pair → Quote → List ℕ
 first_cells trade m = m.total.0 ∷ (pair_of trade).price.0 ∷ (pair_of trade).quantity.0 ∷ []
 
-abbrev pub last_cells : LastTrade → ℕ → ℕ → List ℕ
+abbrev pub last_cells : Option Pair → ℕ → ℕ → List ℕ
 last_cells trade shown time =
     (128 * trade_bit trade + (16 * (shown / 16 % 8 % 8) + 2 * (shown / 2 % 8 % 8))) ∷ time % half ∷ time / half ∷ []
 
@@ -93,40 +90,32 @@ row_in f at = row_from (get_or f.heads at 0) (take per_row (drop (per_row * at) 
 abbrev pub row_before : Flat → Place → Row
 row_before f p = cond p.new free_row (row_in f p.at)
 
--- the answer of a number
-abbrev pub answer_by : ℕ → BoardAnswer
-answer_by n = cond (eqb n 0) Done (Refused n)
-
 -- the first row of a code, else the first free one
-abbrev pub found_of : ℕ → List ℕ → Place
+abbrev pub found_of : ℕ → List ℕ → Option Place
 found_of code heads =
-    cond (ltb (first_of code heads) row_count) (record { at = first_of code heads; new = false; answer = 0 })
-    (cond (ltb (first_of 0 heads) row_count) (record { at = first_of 0 heads; new = true; answer = 0 })
-    (record { at = row_count; new = false; answer = 52 }))
+    cond (ltb (first_of code heads) row_count) (Some (record { at = first_of code heads; new = false }))
+    (cond (ltb (first_of 0 heads) row_count) (Some (record { at = first_of 0 heads; new = true })) None)
 
--- a place is told by a row only on a whole board
-abbrev pub Shown : Flat → Place → Type 0
-Shown f p = p.at < row_count → whole f ≡ true
+-- what a message changes, by the place of its row: on a whole board it can be written, and leaves that row
+pub record PlacedAt (f : Flat) (m : Quote) (p : Place) : Type 0 where
+  pub there : p.at < row_count
+  pub long : Whole f
+  pub right : legal six_codec m ≡ true
+  pub row_is : change_flat f m ≡ Ok (Some (record { at = p.at; row = row_after (row_before f p) m }))
 
--- what a message changes, by a place
-pub record Placed (f : Flat) (m : Quote) (p : Place) : Type 0 where
-  pub shown : Shown f p
-  pub answer-is : answer_by p.answer ≡ (change_flat f m).answer
-  pub at-is : p.at ≡ (change_flat f m).at
-  pub right : p.at < row_count → legal six_codec m ≡ true
-  pub row_is : p.at < row_count → row_after (row_before f p) m ≡ (change_flat f m).row
+-- by a place, by none, or by a refusal
+abbrev pub Placed : Flat → Quote → Result (Option Place) BoardError → Type 0
+Placed f m (Ok (Some p)) = PlacedAt f m p
+Placed f m (Ok None) = change_flat f m ≡ Ok None
+Placed f m (Err e) = change_flat f m ≡ Err e
 
--- what a question is answered with, by a place
-unfoldable pub told_of : Flat → Place → Asked
-told_of f p = record {
-  answer = cond (ltb p.at row_count) Done (Refused p.answer);
-  row = cond (ltb p.at row_count) (get_or (rows_of f) p.at free_row) free_row;
-}
+-- what a question is answered, by the place of a row: on a whole board with that row
+pub record ToldAt (f : Flat) (at : ℕ) (told : Result Row BoardError) : Type 0 where
+  pub there : at < row_count
+  pub long : Whole f
+  pub row_is : told ≡ Ok (get_or (rows_of f) at free_row)
 
-pub record Answers (f : Flat) (code : List ℕ) (p : Place) : Type 0 where
-  pub shown : Shown f p
-  pub told : told_of f p ≡ asked_flat f code
-
-pub record Rows (f : Flat) (at : ℕ) (p : Place) : Type 0 where
-  pub shown : Shown f p
-  pub told : told_of f p ≡ row_at_flat f at
+-- by a place, or by a refusal
+abbrev pub Told : Flat → Result ℕ BoardError → Result Row BoardError → Type 0
+Told f (Ok at) told = ToldAt f at told
+Told f (Err e) told = told ≡ Err e

@@ -30,10 +30,8 @@ pub(crate) fn count_of(heads: &[u64], code: u64) -> usize
     ensures { (result ≡ count_of code heads.now) × (result ≤ length heads.now) }
 {
     let mut n = 0;
-    let mut i = 0;
-    while i < heads.len() {
-        n += one_of(heads[i], code);
-        i += 1;
+    for &head in heads {
+        n += one_of(head, code);
     }
     n
 }
@@ -51,10 +49,8 @@ fn count_near(heads: &[u64], low: u32) -> u32
     ensures { result ≡ near_count low heads.now }
 {
     let mut n = 0;
-    let mut i = 0;
-    while i < heads.len() {
-        n += one_near(heads[i], low);
-        i += 1;
+    for &head in heads {
+        n += one_near(head, low);
     }
     n
 }
@@ -63,14 +59,12 @@ fn count_near(heads: &[u64], low: u32) -> u32
 fn scan(heads: &[u64], code: u64) -> usize
     ensures { result ≡ first_of code heads.now }
 {
-    let mut at = 0;
-    while at < heads.len() {
-        if is_of(heads[at], code) {
+    for (at, &head) in heads.iter().enumerate() {
+        if is_of(head, code) {
             return at;
         }
-        at += 1;
     }
-    at
+    heads.len()
 }
 
 // The place of the first head of a block that has a code, if one of its heads is near.
@@ -89,6 +83,7 @@ pub(crate) fn find(heads: &[u64], code: u64) -> usize
     ensures { result ≡ first_of code heads.now }
 {
     let mut at = 0;
+    // block by block; what is left behind the whole ones is gone through head by head
     while BLOCK <= heads.len() - at {
         let end = at + BLOCK;
         let i = in_block(&heads[at..end], code);

@@ -1,16 +1,14 @@
 // A row put into the lists at its place, and read from them.
-ghost use Rattle.std.specs.Prelude.{◌≡◌, ◌+◌, ◌*◌, ◌/◌, ◌%◌, ◌<◌, ◌≤◌, cond, [], ◌∷◌, ◌++◌, ltb, length, get_or, take, drop};
+ghost use Rattle.std.specs.Prelude.{◌≡◌, ◌+◌, ◌*◌, ◌/◌, ◌%◌, ◌<◌, ◌≤◌, cond, [], ◌∷◌, ◌++◌, length, get_or, take, drop, None};
 ghost use Rattle.std.proofs.lemmas.List.Edits.{sets};
 ghost use Rattle.stock_board.specs.Rows.{free_row, row_after};
 ghost use Rattle.stock_quotes.specs.declared.Levels.TheVariants.{NotShown};
-ghost use Rattle.stock_board.specs.declared.LastTrade.TheVariants.{NoneYet};
 ghost use Rattle.stock_board_flat.specs.Flat.{head_of, marks_of, pair_of, trade_bit, kept_of, cells_of, quote_in, rows_of, stored_at};
 ghost use Rattle.stock_board_flat.specs.Steps.{flat, Whole, trade_in, with_trade, OwnSides, keeps_sides, row_in, first_cells, last_cells, row_before};
 
-use crate::ROWS;
 use crate::placing::Place;
 use amounts::{Pair, Price, Quantity};
-use stock_board::{LastTrade, Row};
+use stock_board::{Row, trade_after};
 use stock_quotes::{Levels, Quote, no_pair};
 use stock_quotes_numbers::{quote_amounts, quote_of};
 
@@ -22,18 +20,11 @@ const AMOUNTS: usize = 23;
 // A time stands in two cells, each of half its bits.
 const HALF: u64 = 4_294_967_296;
 
-// A byte as a number of 64 bits.
-fn wide(b: u8) -> u64
-    ensures { (result ≡ b) × (result < 256) }
-{
-    b as u64
-}
-
 // Four bytes as one number, the first lowest.
 fn four(a: u8, b: u8, c: u8, d: u8) -> u64
     ensures { (result ≡ a + 256 * (b + 256 * (c + 256 * d))) × (result < 4294967296) }
 {
-    wide(a) + 256 * (wide(b) + 256 * (wide(c) + 256 * wide(d)))
+    u64::from(a) + 256 * (u64::from(b) + 256 * (u64::from(c) + 256 * u64::from(d)))
 }
 
 // The head of a row: its code, limit and status.
@@ -80,7 +71,7 @@ fn amounts_in(cells: &[u32]) -> [u32; 23]
     ensures { result ≡ take 23 cells.now }
 {
     let mut amounts = [0u32; 23];
-    put(&cells[0..AMOUNTS], &mut amounts, 0);
+    amounts.copy_from_slice(&cells[..AMOUNTS]);
     amounts
 }
 
@@ -95,23 +86,17 @@ fn quote_from(head: u64, cells: &[u32]) -> Quote
 }
 
 // The pair of a last trade, zeros where there is none yet.
-fn pair_of(trade: LastTrade) -> Pair
+fn pair_of(trade: Option<Pair>) -> Pair
     ensures { result ≡ pair_of trade }
 {
-    match trade {
-        LastTrade::NoneYet => no_pair(),
-        LastTrade::At(p) => p,
-    }
+    trade.unwrap_or(no_pair())
 }
 
 // 1 where there is a last trade.
-fn trade_bit(trade: LastTrade) -> u8
+fn trade_bit(trade: Option<Pair>) -> u8
     ensures { (result ≡ trade_bit trade) × (result ≤ 1) }
 {
-    match trade {
-        LastTrade::NoneYet => 0,
-        LastTrade::At(_) => 1,
-    }
+    u8::from(trade.is_some())
 }
 
 // Which of a row's pairs there are, in the bits of a reveal byte.
@@ -150,35 +135,31 @@ pub fn kept(row: Row) -> Quote
     }
 }
 
-// The row at a place; the free row behind the last one.
+// The row at a place.
 pub(crate) fn row_in(heads: &[u64], cells: &[u32], at: usize) -> Row
-    requires { at < 256 → Whole (flat heads.now cells.now) }
-    ensures { result ≡ cond (ltb at 256) (get_or (rows_of (flat heads.now cells.now)) at free_row) free_row }
+    requires { Whole (flat heads.now cells.now) × (at < 256) }
+    ensures { result ≡ get_or (rows_of (flat heads.now cells.now)) at free_row }
 {
-    let free = Row::free();
-    if at < ROWS {
-        let from = PER_ROW * at;
-        let to = from + PER_ROW;
-        return free.after(quote_from(heads[at], &cells[from..to]));
-    }
-    free
+    let from = PER_ROW * at;
+    let to = from + PER_ROW;
+    Row::free().after(quote_from(heads[at], &cells[from..to]))
 }
 
 // The last trade of the row at a place; none yet where the row is taken anew.
-fn last_trade(cells: &[u32], at: usize, new: bool) -> LastTrade
+fn last_trade(cells: &[u32], at: usize, new: bool) -> Option<Pair>
     requires { (length cells.now ≡ 6656) × (at < 256) }
-    ensures { result ≡ cond new NoneYet (trade_in (take 26 (drop (26 * at) cells.now))) }
+    ensures { result ≡ cond new None (trade_in (take 26 (drop (26 * at) cells.now))) }
 {
     if new {
-        return LastTrade::NoneYet;
+        return None;
     }
     let from = PER_ROW * at;
     if cells[from + AMOUNTS] % 256 / 128 % 2 == 0 {
-        return LastTrade::NoneYet;
+        return None;
     }
     let price = Price(cells[from + 1]);
     let quantity = Quantity(cells[from + 2]);
-    LastTrade::At(Pair { price, quantity })
+    Some(Pair { price, quantity })
 }
 
 // Puts numbers into a list from a place on.
@@ -186,11 +167,8 @@ fn put(numbers: &[u32], cells: &mut [u32], at: usize)
     requires { at + length numbers.now ≤ length cells.old }
     ensures { cells.new ≡ sets cells.old at numbers.now }
 {
-    let mut i = 0;
-    while i < numbers.len() {
-        cells[at + i] = numbers[i];
-        i += 1;
-    }
+    let end = at + numbers.len();
+    cells[at..end].copy_from_slice(numbers);
 }
 
 // A row's cells: its amounts with another trade, what is shown, and the time.
@@ -228,18 +206,17 @@ fn cells_from(n: [u32; 23], trade: Pair, shown: u8, time: u64) -> [u32; 26]
 }
 
 // The cells of a row behind a message that tells its sides, by its last trade before.
-fn cells_after(last: LastTrade, m: Quote) -> [u32; 26]
+fn cells_after(last: Option<Pair>, m: Quote) -> [u32; 26]
     requires { OwnSides m }
     ensures { result ≡ cells_of (kept_of (row_after (with_trade last) m)) }
 {
-    let sent = m.trade;
-    let trade = last.after(sent, m.reveal);
+    let trade = trade_after(last, m.trade, m.reveal);
     let shown = shown_of(trade_bit(trade), m.reveal / 16 % 8, m.reveal / 2 % 8);
     cells_from(quote_amounts(m), pair_of(trade), shown, m.time)
 }
 
 // Puts the row behind a message that tells its sides at a place, by its last trade before.
-fn put_after(heads: &mut [u64], cells: &mut [u32], at: usize, last: LastTrade, m: Quote)
+fn put_after(heads: &mut [u64], cells: &mut [u32], at: usize, last: Option<Pair>, m: Quote)
     requires { Whole (flat heads.old cells.old) × (at < 256) × OwnSides m }
     ensures { flat heads.new cells.new ≡ stored_at (flat heads.old cells.old) at (row_after (with_trade last) m) }
 {
@@ -259,7 +236,7 @@ fn keeps(levels: Levels, new: bool) -> bool
 }
 
 // A row's cells before its levels: the total and the last trade.
-fn first_cells(trade: LastTrade, m: Quote) -> [u32; 3]
+fn first_cells(trade: Option<Pair>, m: Quote) -> [u32; 3]
     ensures { result ≡ first_cells trade m }
 {
     let pair = pair_of(trade);
@@ -267,7 +244,7 @@ fn first_cells(trade: LastTrade, m: Quote) -> [u32; 3]
 }
 
 // Those behind them: what is shown, of the levels as before, and the time.
-fn last_cells(trade: LastTrade, shown: u8, time: u64) -> [u32; 3]
+fn last_cells(trade: Option<Pair>, shown: u8, time: u64) -> [u32; 3]
     ensures { result ≡ last_cells trade shown time }
 {
     let shown = shown_of(trade_bit(trade), shown / 16 % 8, shown / 2 % 8);
@@ -275,13 +252,12 @@ fn last_cells(trade: LastTrade, shown: u8, time: u64) -> [u32; 3]
 }
 
 // Puts the row behind a message that does not show its levels at a place, by its last trade before; the cells of its levels stay.
-fn put_trade(heads: &mut [u64], cells: &mut [u32], at: usize, last: LastTrade, m: Quote)
+fn put_trade(heads: &mut [u64], cells: &mut [u32], at: usize, last: Option<Pair>, m: Quote)
     requires { Whole (flat heads.old cells.old) × (at < 256) × (m.levels ≡ NotShown) × (last ≡ trade_in (take 26 (drop (26 * at) cells.old))) }
     ensures { flat heads.new cells.new ≡ stored_at (flat heads.old cells.old) at (row_after (row_in (flat heads.old cells.old) at) m) }
 {
     let code = m.code;
-    let sent = m.trade;
-    let trade = last.after(sent, m.reveal);
+    let trade = trade_after(last, m.trade, m.reveal);
     let from = PER_ROW * at;
     let shown = (cells[from + AMOUNTS] % 256) as u8;
     heads[at] = head_of(code, m.limit, m.status);

@@ -1,120 +1,108 @@
 // Which row a call is about, by the heads alone: its place, or the refusal that there is none.
-ghost use Rattle.std.specs.Prelude.{◌≡◌, false};
+ghost use Rattle.std.specs.Prelude.{◌≡◌};
 ghost use Rattle.stock_board_flat.specs.Flat.{whole};
-ghost use Rattle.stock_board_flat.specs.Steps.{flat, first_of, found_of, Placed, Answers, Rows};
+ghost use Rattle.stock_board_flat.specs.Calls.{asked_flat, row_at_flat};
+ghost use Rattle.stock_board_flat.specs.Steps.{flat, found_of, Placed, Told};
 
 use crate::finding::{find, is_of};
 use crate::keeping::head_of;
 use crate::{CELLS, ROWS};
 use codes_times::{code_right, zero_code};
+use stock_board::BoardError;
 use stock_quotes::Quote;
 use stock_quotes_write::is_legal;
 
-// A row's place, behind the last one where there is no row; whether the row is taken anew; the answer's number where there is none.
+// A row's place, and whether the row is taken anew.
 #[derive(Clone, Copy)]
 pub struct Place {
     pub at: usize,
     pub new: bool,
-    pub answer: u8,
-}
-
-// No row.
-fn nowhere(answer: u8) -> Place
-    ensures { result ≡ record { at = 256; new = false; answer = answer } }
-{
-    Place {
-        at: ROWS,
-        new: false,
-        answer,
-    }
 }
 
 // Whether the lists are as long as a board's.
 pub(crate) fn is_whole(heads: &[u64], cells: &[u32]) -> bool
     ensures { result ≡ whole (flat heads.now cells.now) }
 {
-    if heads.len() != ROWS {
-        return false;
-    }
-    cells.len() == CELLS
+    heads.len() == ROWS && cells.len() == CELLS
 }
 
 // The first row of a code, else the first free one.
-fn found(heads: &[u64], code: u64) -> Place
+fn found(heads: &[u64], code: u64) -> Option<Place>
     ensures { result ≡ found_of code heads.now }
 {
     let own = find(heads, code);
     if own < ROWS {
-        return Place {
+        return Some(Place {
             at: own,
             new: false,
-            answer: 0,
-        };
+        });
     }
     let free = find(heads, 0);
     if free < ROWS {
-        return Place {
+        return Some(Place {
             at: free,
             new: true,
-            answer: 0,
-        };
+        });
     }
-    nowhere(52)
+    None
 }
 
-// The row that a message changes.
-pub(crate) fn place_taken(heads: &[u64], cells: &[u32], m: Quote) -> Place
+// The row that a message changes, if it changes one.
+pub(crate) fn place_taken(
+    heads: &[u64],
+    cells: &[u32],
+    m: Quote,
+) -> Result<Option<Place>, BoardError>
     ensures { Placed (flat heads.now cells.now) m result }
 {
     if !is_whole(heads, cells) {
-        return nowhere(50);
+        return Err(BoardError::WrongLength);
     }
     if !is_legal(m) {
-        return nowhere(14);
+        return Err(BoardError::NotWritable);
     }
     let code = m.code;
     if zero_code(&code) {
-        return nowhere(0);
+        return Ok(None);
     }
-    found(heads, head_of(code, 0, 0))
+    let Some(p) = found(heads, head_of(code, 0, 0)) else {
+        return Err(BoardError::Full);
+    };
+    Ok(Some(p))
 }
 
 // The row of a code that is asked for.
-pub(crate) fn place_asked(heads: &[u64], cells: &[u32], code: [u8; 6]) -> Place
-    ensures { Answers (flat heads.now cells.now) code result }
+pub(crate) fn place_asked(heads: &[u64], cells: &[u32], code: [u8; 6]) -> Result<usize, BoardError>
+    ensures { Told (flat heads.now cells.now) result (asked_flat (flat heads.now cells.now) code) }
 {
     if !is_whole(heads, cells) {
-        return nowhere(50);
+        return Err(BoardError::WrongLength);
     }
     if !code_right(&code) {
-        return nowhere(51);
+        return Err(BoardError::NoRow);
     }
     if zero_code(&code) {
-        return nowhere(51);
+        return Err(BoardError::NoRow);
     }
     let own = find(heads, head_of(code, 0, 0));
-    Place {
-        at: own,
-        new: false,
-        answer: 51,
+    if own < ROWS {
+        return Ok(own);
     }
+    Err(BoardError::NoRow)
 }
 
 // The row in use at a place.
-pub(crate) fn place_used(heads: &[u64], cells: &[u32], at: usize) -> Place
-    ensures { Rows (flat heads.now cells.now) at result }
+pub(crate) fn place_used(heads: &[u64], cells: &[u32], at: usize) -> Result<usize, BoardError>
+    ensures { Told (flat heads.now cells.now) result (row_at_flat (flat heads.now cells.now) at) }
 {
     if !is_whole(heads, cells) {
-        return nowhere(50);
+        return Err(BoardError::WrongLength);
     }
-    if at < ROWS {
-        if is_of(heads[at], 0) {
-            return nowhere(51);
-        }
+    if at >= ROWS {
+        return Err(BoardError::NoRow);
     }
-    Place {
-        at,
-        new: false,
-        answer: 51,
+    if is_of(heads[at], 0) {
+        return Err(BoardError::NoRow);
     }
+    Ok(at)
 }

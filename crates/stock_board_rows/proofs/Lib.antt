@@ -1,7 +1,4 @@
 -- The laws that the proofs cite, and the theorems that belong to no one function.
-pub mod CodeLaws
-pub mod SearchLaws
-pub mod ChangeLaws
-pub mod TurnLaws
-pub mod ClearLaws
+pub mod PlaceLaws
+pub mod TakeLaws
 pub mod Determined

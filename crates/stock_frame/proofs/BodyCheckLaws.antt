@@ -1,4 +1,5 @@
 -- Which check of a body answers: the first that fails, where those before it hold; and what that answer is.
+use Rattle.std.specs.Prelude.{None}
 use Prim.Native.Nat.{ℕ, ◌+◌, ◌≤◌}
 use mathlib.Core.Path.{◌≡◌, sym, ap, ◌∙◌}
 use mathlib.Core.Bool.{Bool, true, false, cond}
@@ -6,7 +7,6 @@ use mathlib.Core.List.{List}
 use lib.ListN.{length}
 use lib.Dec.{eqb, leb}
 use borrow.Author.Tests.{le-leb}
-use Rattle.digits.specs.declared.halves.Place.TheVariants.{None}
 use Rattle.layout.specs.Cells.{Cell, size, good_cells}
 use Rattle.layout.specs.Places.{first_bad}
 use Rattle.layout.specs.Checks.{first_fail}

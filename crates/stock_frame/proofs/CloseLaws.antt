@@ -1,12 +1,13 @@
 -- Closing a frame of the stock exchange: its header's fields written one behind another, and what then stands in the buffer.
+use Rattle.std.specs.Prelude.{Ok}
 use Prim.Native.Nat.{ℕ, ◌+◌, ◌-◌, ◌^◌, ◌≤◌, ◌<◌}
 use mathlib.Core.Path.{◌≡◌, refl, sym, ap, ◌∙◌}
-use mathlib.Core.Bool.{true, false}
+use mathlib.Core.Bool.{true}
 use mathlib.Core.List.{List, [], ◌++◌}
 use native.Mathlib.Omega.{arith}
 use lib.ListN.{length, take, drop, set}
 use lib.Seq.{sets}
-use borrow.Author.Tests.{lt-ltb, le-ltb, le-leb, lt-leb}
+use borrow.Author.Tests.{lt-ltb, le-leb}
 use Rattle.digits.specs.Packed.{packed}
 use Rattle.digits.specs.Fields.{put_at}
 use Rattle.layout.proofs.PutLaws.{put-behind}
@@ -16,7 +17,6 @@ use Rattle.frame.proofs.CloseLaws.{covered, length-placed, ended-stores}
 use Rattle.stock_frame.specs.Outline.{head_cells}
 use Rattle.stock_frame.specs.Format.{around}
 use Rattle.stock_frame.specs.Writing.{sealed, head_values, closable, close_answer, closed_over}
-use Rattle.answers.specs.declared.Written.TheVariants.{Done, Illegal, NoRoom}
 
 -- the header's fields, one behind another
 module _ (n format version seq : ℕ) (s s₁ s₂ s₃ s₄ s₅ : List ℕ) (room : 10 ≤ length s)
@@ -33,37 +33,15 @@ module _ (n format version seq : ℕ) (s s₁ s₂ s₃ s₄ s₅ : List ℕ) (r
       w₄ ∙ put-behind version 1 ((packed 2 n ++ packed 1 1) ++ packed 1 format) s s₃ 1 5 p₃ refl (omega arith) (omega arith) (omega arith) in
       w₅ ∙ put-behind seq 4 (((packed 2 n ++ packed 1 1) ++ packed 1 format) ++ packed 1 version) s s₄ 1 6 p₄ refl (omega arith) (omega arith) (omega arith)
 
--- ---- the answers
+-- ---- what closing answers and leaves
 module _ (format version seq n : ℕ) (buf : List ℕ) where
-  -- a refusal leaves the buffer
-  refused : closable format version seq n ≡ false → (Illegal ≡ close_answer format version seq n buf) × (buf ≡ closed_over format version seq n buf)
-  refused e = rw e (refl, refl)
-
-  pub close-format : 99 < format → (Illegal ≡ close_answer format version seq n buf) × (buf ≡ closed_over format version seq n buf)
-  close-format h = refused (rw (le-ltb format 100 h))
-
   module _ (hf : format < 100) where
-    pub close-version : 99 < version → (Illegal ≡ close_answer format version seq n buf) × (buf ≡ closed_over format version seq n buf)
-    close-version h = refused (rw (lt-ltb format 100 hf, le-ltb version 100 h))
-
     module _ (hv : version < 100) where
-      pub close-seq : 99999999 < seq → (Illegal ≡ close_answer format version seq n buf) × (buf ≡ closed_over format version seq n buf)
-      close-seq h = refused (rw (lt-ltb format 100 hf, lt-ltb version 100 hv, le-ltb seq (10 ^ 8) h))
-
       module _ (hs : seq < 10 ^ 8) where
-        pub close-short : n < 14 → (Illegal ≡ close_answer format version seq n buf) × (buf ≡ closed_over format version seq n buf)
-        close-short h = refused (rw (lt-ltb format 100 hf, lt-ltb version 100 hv, lt-ltb seq (10 ^ 8) hs, lt-leb 14 n h))
-
         module _ (low : 14 ≤ n) where
-          pub close-long : 1024 < n → (Illegal ≡ close_answer format version seq n buf) × (buf ≡ closed_over format version seq n buf)
-          close-long h = refused (rw (lt-ltb format 100 hf, lt-ltb version 100 hv, lt-ltb seq (10 ^ 8) hs, le-leb 14 n low, lt-leb n 1024 h))
-
           module _ (high : n ≤ 1024) where
             pub closable-all : closable format version seq n ≡ true
             closable-all = rw (lt-ltb format 100 hf, lt-ltb version 100 hv, lt-ltb seq (10 ^ 8) hs, le-leb 14 n low, le-leb n 1024 high)
-
-            pub close-room : length buf < n → (NoRoom ≡ close_answer format version seq n buf) × (buf ≡ closed_over format version seq n buf)
-            close-room h = rw (closable-all, lt-leb n (length buf) h) (refl, refl)
 
             module _ (fit : n ≤ length buf) where
               abbrev head : List ℕ
@@ -71,7 +49,7 @@ module _ (format version seq n : ℕ) (buf : List ℕ) where
 
               -- t is the buffer with 27 and the header, and x the check byte over it
               pub close-done : (t : List ℕ) (x : ℕ) → t ≡ sets (set buf 0 27) 1 head → x ≡ xor_of (take (n - 3 - 1) (drop 1 t))
-                  → (Done n ≡ close_answer format version seq n buf)
+                  → (Ok n ≡ close_answer format version seq n buf)
                   × (set (set (set t (n - 3) x) (n - 2) 13) (n - 1) 10 ≡ closed_over format version seq n buf)
               close-done t x so e =
                   let b = take (n - around) (drop 10 buf) in

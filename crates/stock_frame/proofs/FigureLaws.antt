@@ -1,4 +1,5 @@
 -- An outline and a writing tell the figures that the rules name beside their numbers, and no others.
+use Rattle.std.specs.Prelude.{Err, Ok}
 use Prim.Native.Nat.{ℕ}
 use mathlib.Core.Path.{refl}
 use mathlib.Core.List.{List}
@@ -8,12 +9,11 @@ pub use Rattle.frame.proofs.FigureLaws.{number-named, fails-at-most}
 use Rattle.stock_frame.specs.Outline.{header, own, head_of, outline_of}
 use Rattle.stock_frame.specs.Writing.{closable, close_answer}
 use Rattle.stock_frame.specs.Figures.{outline_number, outline_values, head_figures, OutlineSays, WriteSays}
-use Rattle.stock_frame.specs.declared.head.Outline.TheVariants.{Whole, Not}
 
 pub outline-says : (t : List ℕ) → OutlineSays t
 unfolding outline_of
 outline-says t =
-    common.outline-tells outline_number outline_values Not (λ a. refl) (λ a. refl) header t (Whole (head_of (own t))) (head_figures (head_of (own t))) refl refl
+    common.outline-tells outline_number outline_values Err (λ a. refl) (λ a. refl) header t (Ok (head_of (own t))) (head_figures (head_of (own t))) refl refl
 
 -- of closing a frame around a body
 pub close-says : (format version seq n : ℕ) (buf : List ℕ) → WriteSays (closable format version seq n) n (length buf) (close_answer format version seq n buf)

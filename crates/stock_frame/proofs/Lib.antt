@@ -4,7 +4,6 @@ pub mod FormatLaws
 pub mod FormatsLaws
 pub mod CodecLaws
 pub mod CloseLaws
-pub mod LengthSteps
 pub mod OutlineSteps
 pub mod PartLaws
 pub mod PlaceSteps

@@ -1,4 +1,5 @@
 -- A message's frame written: its body put cell by cell, then closed. Over any format's messages of the stock exchange.
+use Rattle.std.specs.Prelude.{Err, Result}
 use Prim.Native.Nat.{ℕ, ◌+◌, ◌^◌, ◌≤◌, ◌<◌}
 use mathlib.Core.Path.{◌≡◌}
 use mathlib.Core.Bool.{true}
@@ -9,8 +10,6 @@ use lib.Seq.{sets}
 use borrow.Author.Tests.{lt-ltb, le-leb}
 use Rattle.digits.proofs.TestLaws.{all, ◌also◌, together}
 use Rattle.layout.specs.Cells.{size, encode}
-use Rattle.answers.specs.declared.Written.{Written}
-use Rattle.answers.specs.declared.Written.TheVariants.{NoRoom}
 use Rattle.frame.proofs.MessageLaws as common
 pub use Rattle.frame.proofs.WriteLaws.{write-illegal, write-short, write-whole, written-number}
 use Rattle.stock_frame.specs.Format.{around}
@@ -18,6 +17,8 @@ use Rattle.stock_frame.specs.Writing.{write_answer, written_over, closable, clos
 use Rattle.stock_frame.specs.Codec.{Codec, legal, frame_of}
 use Rattle.stock_frame.proofs.FormatLaws.{range-bounds}
 use Rattle.stock_frame.proofs.CodecLaws.{Lawful, as_common, common-lawful, legal-common, legal-seq, legal-range}
+use Rattle.answers.specs.declared.WriteError.{WriteError}
+use Rattle.answers.specs.declared.WriteError.TheVariants.{NoRoom}
 
 -- ---- a message of any format
 module _ {M : Type 0} (C : Codec M) (Shaped : M → Type 0) (law : Lawful C Shaped) (m : M) (s : Shaped m) (l : legal C m ≡ true) where
@@ -37,11 +38,11 @@ module _ {M : Type 0} (C : Codec M) (Shaped : M → Type 0) (law : Lawful C Shap
 
   -- the buffer is too short
   pub message-short : (buf : List ℕ) → length buf < whole
-      → (NoRoom ≡ write_answer (legal C m) (frame_of C m) buf) × (buf ≡ written_over (legal C m) (frame_of C m) buf)
+      → (Err NoRoom ≡ write_answer (legal C m) (frame_of C m) buf) × (buf ≡ written_over (legal C m) (frame_of C m) buf)
   message-short = common.message-short (as_common C) Shaped (common-lawful C Shaped law) m s (legal-common C Shaped law m l) (legal C m) l
 
   -- the body's cells were put from byte 11 on, then closing answered and left u
-  pub message-closed : (buf t u : List ℕ) (answer : Written) → whole ≤ length buf → t ≡ sets buf 10 (encode (C.cells m) (C.values m))
+  pub message-closed : (buf t u : List ℕ) (answer : Result ℕ WriteError) → whole ≤ length buf → t ≡ sets buf 10 (encode (C.cells m) (C.values m))
       → answer ≡ close_answer C.form.number C.form.version (C.seq m) whole t
       → u ≡ closed_over C.form.number C.form.version (C.seq m) whole t
       → (answer ≡ write_answer (legal C m) (frame_of C m) buf) × (u ≡ written_over (legal C m) (frame_of C m) buf)

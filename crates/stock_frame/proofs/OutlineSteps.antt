@@ -1,4 +1,5 @@
 -- The outline check by check: what each check that fails answers, and what the header's digits tell.
+use Rattle.std.specs.Prelude.{Err, None, Ok, Option, Result, Some}
 use Prim.Native.Nat.{ℕ, ◌+◌, ◌-◌, ◌*◌, ◌%◌, ◌≤◌, ◌<◌}
 use mathlib.Core.Path.{◌≡◌, refl, sym, ap, ap₂, ◌∙◌}
 use mathlib.Core.Bool.{Bool, true, false, cond, ◌&&◌}
@@ -17,8 +18,6 @@ use Rattle.digits.proofs.PackedLaws.{two-lt}
 use Rattle.layout.specs.Cells.{good_cells, decode}
 use Rattle.layout.specs.Places.{first_bad}
 use Rattle.layout.specs.Checks.{first_fail}
-use Rattle.digits.specs.declared.halves.Place.{Place}
-use Rattle.digits.specs.declared.halves.Place.TheVariants.{None}
 use Rattle.answers.specs.Answers.{named}
 use Rattle.words.specs.Xor.{xor_of}
 use Rattle.frame.specs.Header.{last_checks}
@@ -26,55 +25,54 @@ use Rattle.frame.proofs.OutlineSteps as common
 use Rattle.frame.proofs.LineSteps as line
 use Rattle.stock_frame.specs.Outline.{header, length_bytes, length_cells, length_of, own, inner, kind_cells, check_byte, ended, length_right, outline_checks, head_of, outline_place, outline_of}
 use Rattle.answers.specs.declared.Answer.TheVariants.{NoFrame, Refused}
-use Rattle.stock_frame.specs.declared.head.Outline.{Outline}
-use Rattle.stock_frame.specs.declared.head.Outline.TheVariants.{Whole, Not}
-use Rattle.stock_frame.proofs.OutlineLaws.{header-law, length-bytes-taken, right-length}
+use Rattle.stock_frame.proofs.OutlineLaws.{length-bytes-taken, right-length}
 use Rattle.layout.proofs.WholeLaws.{good-wholes}
-use Rattle.stock_frame.proofs.LengthSteps.{length_in}
+use Rattle.stock_frame.specs.declared.head.Head.{Head}
+use Rattle.answers.specs.declared.Answer.{Answer}
 
 -- ---- the first check that fails answers
 module _ (t : List ℕ) where
   pub answered : (k : ℕ) → first_fail (outline_checks t) ≡ k
-      → cond (eqb k 0) (Whole (head_of (own t))) (Not (named k (record { format = 0; seq = 0; length = length_of t }) (outline_place k t))) ≡ outline_of t
+      → cond (eqb k 0) (Ok (head_of (own t))) (Err (named k (record { format = 0; seq = 0; length = length_of t }) (outline_place k t))) ≡ outline_of t
   unfolding outline_of
-  answered k e = ap (λ (n : ℕ). cond (eqb n 0) (Whole (head_of (own t))) (Not (named n (record { format = 0; seq = 0; length = length_of t }) (outline_place n t)))) (sym e)
+  answered k e = ap (λ (n : ℕ). cond (eqb n 0) (Ok (head_of (own t))) (Err (named n (record { format = 0; seq = 0; length = length_of t }) (outline_place n t)))) (sym e)
 
-  pub check-none : length t < 1 → Not (NoFrame 2 None) ≡ outline_of t
+  pub check-none : length t < 1 → Err (NoFrame 2 None) ≡ outline_of t
   check-none h = answered 2 (common.fails-empty header t h)
 
   module _ (some : 1 ≤ length t) where
-    pub check-first : (get_or t 0 0 ≡ 27 → ⊥) → Not (NoFrame 1 None) ≡ outline_of t
+    pub check-first : (get_or t 0 0 ≡ 27 → ⊥) → Err (NoFrame 1 None) ≡ outline_of t
     check-first h = answered 1 (common.fails-first header t some h)
 
     module _ (starts : get_or t 0 0 ≡ 27) where
-      pub check-three : length t < 3 → Not (NoFrame 2 None) ≡ outline_of t
+      pub check-three : length t < 3 → Err (NoFrame 2 None) ≡ outline_of t
       check-three h = answered 2 (common.fails-header header t some starts h)
 
       module _ (three : 3 ≤ length t) where
-        pub check-length : length_right t ≡ false → Not (NoFrame 3 (first_bad length_cells 2 (length_bytes t))) ≡ outline_of t
+        pub check-length : length_right t ≡ false → Err (NoFrame 3 (first_bad length_cells 2 (length_bytes t))) ≡ outline_of t
         check-length h = answered 3 (common.fails-length header t some starts three h)
 
         module _ (right : length_right t ≡ true) where
-          pub check-whole : length t < length_of t → Not (NoFrame 2 None) ≡ outline_of t
+          pub check-whole : length t < length_of t → Err (NoFrame 2 None) ≡ outline_of t
           check-whole h = answered 2 (common.fails-whole header t some starts three right h)
 
           module _ (whole : length_of t ≤ length t) where
             left-checks : first_fail (outline_checks t) ≡ first_fail (last_checks header (own t))
             left-checks = common.passed-whole header t some starts three right whole
 
-            pub check-end : ended (own t) ≡ false → Not (NoFrame 4 None) ≡ outline_of t
+            pub check-end : ended (own t) ≡ false → Err (NoFrame 4 None) ≡ outline_of t
             check-end h = answered 4 (left-checks ∙ rw h)
 
             module _ (ends : ended (own t) ≡ true) where
-              pub check-byte : (check_byte (own t) ≡ xor_of (inner (own t)) → ⊥) → Not (NoFrame 5 None) ≡ outline_of t
+              pub check-byte : (check_byte (own t) ≡ xor_of (inner (own t)) → ⊥) → Err (NoFrame 5 None) ≡ outline_of t
               check-byte h = answered 5 (left-checks ∙ rw (ends, ne_eqb (check_byte (own t)) (xor_of (inner (own t))) h))
 
               module _ (checked : check_byte (own t) ≡ xor_of (inner (own t))) where
-                pub check-head : good_cells kind_cells (drop 3 (own t)) ≡ false → Not (Refused 6 (length_of t) (first_bad kind_cells 6 (drop 3 (own t)))) ≡ outline_of t
+                pub check-head : good_cells kind_cells (drop 3 (own t)) ≡ false → Err (Refused 6 (length_of t) (first_bad kind_cells 6 (drop 3 (own t)))) ≡ outline_of t
                 check-head h =
                     answered 6 (left-checks ∙ rw (ends, eq-eqb (check_byte (own t)) (xor_of (inner (own t))) checked, h))
 
-                pub check-all : good_cells kind_cells (drop 3 (own t)) ≡ true → Whole (head_of (own t)) ≡ outline_of t
+                pub check-all : good_cells kind_cells (drop 3 (own t)) ≡ true → Ok (head_of (own t)) ≡ outline_of t
                 check-all h =
                     answered 0 (left-checks ∙ rw (ends, eq-eqb (check_byte (own t)) (xor_of (inner (own t))) checked, h))
 
@@ -111,6 +109,10 @@ length-bytes [] h = absurd (omega arith)
 length-bytes (a ∷ []) h = absurd (omega arith)
 length-bytes (a ∷ b ∷ []) h = absurd (omega arith)
 
+-- the length that two bytes give, if they give one
+abbrev pub length_in : ℕ → ℕ → Option ℕ
+length_in a b = cond (length_right (27 ∷ a ∷ b ∷ [])) (Some (length_of (27 ∷ a ∷ b ∷ []))) None
+
 -- the length that they give
 module _ (t : List ℕ) (three : 3 ≤ length t) where
   same-right : length_right t ≡ length_right (27 ∷ get_or t 1 0 ∷ get_or t 2 0 ∷ [])
@@ -124,15 +126,15 @@ module _ (t : List ℕ) (three : 3 ≤ length t) where
       let g : good (get_or t 1 0 ∷ get_or t 2 0 ∷ []) ≡ true = ap good (sym (length-bytes t three)) ∙ and_left (good (length_bytes t)) _ (and_left (good_field 4 (length_bytes t)) _ right) in
       holds (good_byte (get_or t 1 0) ∷ good_byte (get_or t 2 0) ∷ true ∷ []) g 1
 
-  module _ (n : ℕ) (is : n ≡ length_in (get_or t 1 0) (get_or t 2 0)) where
-    by-test : n ≡ cond (length_right t) (length_of t) 0
-    by-test = is ∙ ap₂ (λ (r : Bool) (k : ℕ). cond r k 0) (sym same-right) (sym same_length)
+  module _ (r : Option ℕ) (is : r ≡ length_in (get_or t 1 0) (get_or t 2 0)) where
+    by-test : r ≡ cond (length_right t) (Some (length_of t)) None
+    by-test = is ∙ ap₂ (λ (b : Bool) (k : ℕ). cond b (Some k) None) (sym same-right) (sym same_length)
 
-    pub length_none : n ≡ 0 → length_right t ≡ false
-    length_none = line.length_none header header-law t n by-test
+    pub length_none : r ≡ None → length_right t ≡ false
+    length_none = line.length_none header t r by-test
 
-    pub length_some : (n ≡ 0 → ⊥) → (length_right t ≡ true) × (n ≡ length_of t)
-    length_some = line.length_some header header-law t n by-test
+    pub length_some : (n : ℕ) → r ≡ Some n → (length_right t ≡ true) × (n ≡ length_of t)
+    length_some = line.length_some header t r by-test
 
 -- ---- the outline is that of the frame's own bytes
 
@@ -159,10 +161,10 @@ module _ (t : List ℕ) (starts : get_or t 0 0 ≡ 27) (three : 3 ≤ length t) 
   own-own = ap (λ (k : ℕ). take k (own t)) own-length ∙ take-take (length_of t) (length_of t) t (omega arith)
 
 -- the outline of a number: the frame's own bytes, those of its length, and the length
-abbrev placed : ℕ → List ℕ → List ℕ → ℕ → Outline
+abbrev placed : ℕ → List ℕ → List ℕ → ℕ → Result Head Answer
 placed n m bs l =
-    cond (eqb n 0) (Whole (head_of m))
-    (Not (named n (record { format = 0; seq = 0; length = l })
+    cond (eqb n 0) (Ok (head_of m))
+    (Err (named n (record { format = 0; seq = 0; length = l })
     (cond (eqb n 3) (first_bad length_cells 2 bs) (cond (eqb n 6) (first_bad kind_cells 6 (drop 3 m)) None))))
 
 -- any bytes behind the frame's own change nothing
@@ -178,7 +180,7 @@ outline-own t starts three right whole =
     ∙ ap (λ (m : List ℕ). first_fail (last_checks header m)) same
     ∙ sym (common.passed-whole header t (omega arith) starts three right whole) in
     let bytes = own-bytes t starts three right whole in
-    ap₂ (λ (n l : ℕ). cond (eqb n 0) (Whole (head_of (own f))) (Not (named n (record { format = 0; seq = 0; length = l }) (outline_place n f)))) checks told
+    ap₂ (λ (n l : ℕ). cond (eqb n 0) (Ok (head_of (own f))) (Err (named n (record { format = 0; seq = 0; length = l }) (outline_place n f)))) checks told
     ∙ ap₂ (λ (m bs : List ℕ). placed (first_fail (outline_checks t)) m bs (length_of t)) same bytes
 
 -- ---- a frame's own bytes f, test by test
@@ -186,13 +188,13 @@ module _ (f : List ℕ) (long : 14 ≤ length f) (starts : get_or f 0 0 ≡ 27) 
   is-own : own f ≡ f
   is-own = ap (λ (k : ℕ). take k f) told ∙ take-length f
 
-  pub own-return : (get_or f (length f - 2) 0 ≡ 13 → ⊥) → Not (NoFrame 4 None) ≡ outline_of f
+  pub own-return : (get_or f (length f - 2) 0 ≡ 13 → ⊥) → Err (NoFrame 4 None) ≡ outline_of f
   own-return h =
       check-end f (omega arith) starts (omega arith) right (omega arith)
       (ap ended is-own ∙ ap (λ (t : Bool). t && eqb (get_or f (length f - 1) 0) 10) (ne_eqb (get_or f (length f - 2) 0) 13 h))
 
   module _ (cr : get_or f (length f - 2) 0 ≡ 13) where
-    pub own-feed : (get_or f (length f - 1) 0 ≡ 10 → ⊥) → Not (NoFrame 4 None) ≡ outline_of f
+    pub own-feed : (get_or f (length f - 1) 0 ≡ 10 → ⊥) → Err (NoFrame 4 None) ≡ outline_of f
     own-feed h =
         check-end f (omega arith) starts (omega arith) right (omega arith)
         (ap ended is-own ∙ ap₂ ◌&&◌ (eq-eqb (get_or f (length f - 2) 0) 13 cr) (ne_eqb (get_or f (length f - 1) 0) 10 h))
@@ -206,7 +208,7 @@ module _ (f : List ℕ) (long : 14 ≤ length f) (starts : get_or f 0 0 ≡ 27) 
           let e : length f - 3 - 1 ≡ length f - 4 = omega arith in
           sym (is ∙ ap (λ (k : ℕ). xor_of (take k (drop 1 f))) e ∙ ap (λ (m : List ℕ). xor_of (inner m)) (sym is-own))
 
-      pub own-check : (get_or f (length f - 3) 0 ≡ x → ⊥) → Not (NoFrame 5 None) ≡ outline_of f
+      pub own-check : (get_or f (length f - 3) 0 ≡ x → ⊥) → Err (NoFrame 5 None) ≡ outline_of f
       own-check h =
           check-byte f (omega arith) starts (omega arith) right (omega arith) ends
           (λ q. h (sym (ap check_byte is-own) ∙ q ∙ covers))
@@ -232,19 +234,19 @@ module _ (f : List ℕ) (long : 14 ≤ length f) (starts : get_or f 0 0 ≡ 27) 
             ap (λ (r : Block). r.good) halves ∙ head-good (get_or f 2 0) (drop 3 f) enough (length_last f (omega arith) right)
             ∙ ap (λ (m : List ℕ). good_cells kind_cells (drop 3 m)) (sym is-own)
 
-        pub own-head : h.good ≡ false → (p : Place) → p ≡ first_bad kind_cells 6 (drop 3 f) → Not (Refused 6 (length f) p) ≡ outline_of f
+        pub own-head : h.good ≡ false → (p : Option ℕ) → p ≡ first_bad kind_cells 6 (drop 3 f) → Err (Refused 6 (length f) p) ≡ outline_of f
         own-head b p at =
-            ap₂ (λ (k : ℕ) (x : Place). Not (Refused 6 k x)) (sym told) (at ∙ ap (λ (m : List ℕ). first_bad kind_cells 6 (drop 3 m)) (sym is-own))
+            ap₂ (λ (k : ℕ) (x : Option ℕ). Err (Refused 6 k x)) (sym told) (at ∙ ap (λ (m : List ℕ). first_bad kind_cells 6 (drop 3 m)) (sym is-own))
             ∙ check-head f (omega arith) starts (omega arith) right (omega arith) ends checked (sym digits-good ∙ b)
 
-        pub own-whole : h.good ≡ true → Whole (record { kind = h.first % 1000000; seq = h.last; length = length f }) ≡ outline_of f
+        pub own-whole : h.good ≡ true → Ok (record { kind = h.first % 1000000; seq = h.last; length = length f }) ≡ outline_of f
         own-whole b =
             let g : good (take 7 (drop 3 f)) ≡ true =
             sym (good-wholes (1 ∷ 1 ∷ 1 ∷ 4 ∷ []) (drop 3 f) enough) ∙ ap (λ (m : List ℕ). good_cells kind_cells (drop 3 m)) (sym is-own) ∙ sym digits-good ∙ b in
             let k = ap (λ (r : Block). r.first % 1000000) halves ∙ head-kind (get_or f 2 0) (drop 3 f) (omega (arith, enough)) g in
             let s = ap (λ (r : Block). r.last) halves ∙ head-number (get_or f 2 0) (drop 3 f) (omega (arith, enough)) in
-            ap₂ (λ (x y : ℕ). Whole (record { kind = x; seq = y; length = length f })) k s
-            ∙ ap (λ (m : List ℕ). Whole (head_of m)) (sym is-own)
+            ap₂ (λ (x y : ℕ). Ok (record { kind = x; seq = y; length = length f })) k s
+            ∙ ap (λ (m : List ℕ). Ok (head_of m)) (sym is-own)
             ∙ check-all f (omega arith) starts (omega arith) right (omega arith) ends checked (sym digits-good ∙ b)
 
 -- ---- a line from a place on, test by test
@@ -255,38 +257,38 @@ module _ (line : List ℕ) (at : ℕ) where
   first-at : get_or (drop at line) 0 0 ≡ get_or line at 0
   first-at = let e : at + 0 ≡ at = omega arith in byte_at 0 ∙ ap (λ (k : ℕ). get_or line k 0) e
 
-  pub line-none : length line ≤ at → Not (NoFrame 2 None) ≡ outline_of (drop at line)
+  pub line-none : length line ≤ at → Err (NoFrame 2 None) ≡ outline_of (drop at line)
   line-none h = check-none (drop at line) (rw length-drop (omega arith))
 
   module _ (some : at < length line) where
-    pub line_first : (get_or line at 0 ≡ 27 → ⊥) → Not (NoFrame 1 None) ≡ outline_of (drop at line)
+    pub line_first : (get_or line at 0 ≡ 27 → ⊥) → Err (NoFrame 1 None) ≡ outline_of (drop at line)
     line_first h = check-first (drop at line) (rw length-drop (omega arith)) (λ q. h (sym first-at ∙ q))
 
     module _ (starts : get_or line at 0 ≡ 27) where
-      pub line-three : length line - at < 3 → Not (NoFrame 2 None) ≡ outline_of (drop at line)
+      pub line-three : length line - at < 3 → Err (NoFrame 2 None) ≡ outline_of (drop at line)
       line-three h = check-three (drop at line) (rw length-drop (omega arith)) (first-at ∙ starts) (rw length-drop (omega arith))
 
-      module _ (three : 3 ≤ length line - at) (n : ℕ) (is : n ≡ length_in (get_or line (at + 1) 0) (get_or line (at + 2) 0)) where
+      module _ (three : 3 ≤ length line - at) (r : Option ℕ) (is : r ≡ length_in (get_or line (at + 1) 0) (get_or line (at + 2) 0)) where
         enough-at : 3 ≤ length (drop at line)
         enough-at = rw length-drop three
 
-        length_at : n ≡ length_in (get_or (drop at line) 1 0) (get_or (drop at line) 2 0)
+        length_at : r ≡ length_in (get_or (drop at line) 1 0) (get_or (drop at line) 2 0)
         length_at = is ∙ ap₂ length_in (sym (byte_at 1)) (sym (byte_at 2))
 
-        pub line-length : n ≡ 0 → (p : Place) → p ≡ first_bad length_cells 2 (length_bytes (drop at line)) → Not (NoFrame 3 p) ≡ outline_of (drop at line)
+        pub line-length : r ≡ None → (p : Option ℕ) → p ≡ first_bad length_cells 2 (length_bytes (drop at line)) → Err (NoFrame 3 p) ≡ outline_of (drop at line)
         line-length z p said =
-            ap (λ (x : Place). Not (NoFrame 3 x)) said
+            ap (λ (x : Option ℕ). Err (NoFrame 3 x)) said
             ∙ check-length (drop at line) (rw length-drop (omega arith)) (first-at ∙ starts) enough-at
-            (length_none (drop at line) enough-at n length_at z)
+            (length_none (drop at line) enough-at r length_at z)
 
-        module _ (length-is : n ≡ 0 → ⊥) where
+        module _ (n : ℕ) (length-is : r ≡ Some n) where
           right-at : length_right (drop at line) ≡ true
-          right-at = (length_some (drop at line) enough-at n length_at length-is).0
+          right-at = (length_some (drop at line) enough-at r length_at n length-is).0
 
           told_at : n ≡ length_of (drop at line)
-          told_at = (length_some (drop at line) enough-at n length_at length-is).1
+          told_at = (length_some (drop at line) enough-at r length_at n length-is).1
 
-          pub line-whole : length line - at < n → Not (NoFrame 2 None) ≡ outline_of (drop at line)
+          pub line-whole : length line - at < n → Err (NoFrame 2 None) ≡ outline_of (drop at line)
           line-whole h =
               check-whole (drop at line) (rw length-drop (omega arith)) (first-at ∙ starts) enough-at right-at
               (rw (length-drop, ← told_at) h)

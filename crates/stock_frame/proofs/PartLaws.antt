@@ -1,4 +1,5 @@
 -- What a reader of frames goes by: what the outline's answer tells, where the body stands on the line, and that bytes behind a frame change nothing.
+use Rattle.std.specs.Prelude.{Err, None, Ok}
 use Prim.Native.Nat.{ℕ, ◌+◌, ◌-◌, ◌≤◌}
 use mathlib.Core.Path.{◌≡◌, refl, sym, ap, ◌∙◌}
 use mathlib.Core.Bool.{Bool, true, false, cond}
@@ -9,7 +10,6 @@ use lib.Dec.{eqb, leb}
 use borrow.Author.Tests.{eqb-true, eqb-false, leb-true, leb-false}
 use Rattle.layout.specs.Checks.{first_fail}
 use Rattle.layout.specs.Places.{first_bad}
-use Rattle.digits.specs.declared.halves.Place.TheVariants.{None}
 use Rattle.answers.specs.Answers.{named}
 use Rattle.frame.proofs.OutlineSteps as common
 use Rattle.stock_frame.specs.Outline.{header, length_bytes, length_of, own, body, length_cells, length_right, outline_checks, head_of, outline_place, outline_of}
@@ -17,29 +17,28 @@ use Rattle.stock_frame.specs.Reads.{Outlined}
 use Rattle.stock_frame.specs.declared.head.Head.{Head}
 use Rattle.answers.specs.declared.Answer.{Answer}
 use Rattle.answers.specs.declared.Answer.TheVariants.{NoFrame}
-use Rattle.stock_frame.specs.declared.head.Outline.TheVariants.{Whole, Not}
 use Rattle.stock_frame.proofs.OutlineLaws.{header-law, passes-outlined}
 use Rattle.stock_frame.proofs.OutlineSteps.{answered, check-none, check-first, check-three, check-length, check-whole, outline-own}
 
 -- ---- what the answer tells
 module _ (t : List ℕ) where
   -- a whole outline is one whose checks all hold, and its header is that of the frame's own bytes
-  pub whole-outlined : (h : Head) → outline_of t ≡ Whole h → Outlined t × (h ≡ head_of (own t))
+  pub whole-outlined : (h : Head) → outline_of t ≡ Ok h → Outlined t × (h ≡ head_of (own t))
   whole-outlined h e = go (eqb (first_fail (outline_checks t)) 0) refl (answered t (first_fail (outline_checks t)) refl ∙ e)
     where
       go : (b : Bool) → eqb (first_fail (outline_checks t)) 0 ≡ b
-          → cond b (Whole (head_of (own t))) (Not (named (first_fail (outline_checks t)) (record { format = 0; seq = 0; length = length_of t }) (outline_place (first_fail (outline_checks t)) t))) ≡ Whole h
+          → cond b (Ok (head_of (own t))) (Err (named (first_fail (outline_checks t)) (record { format = 0; seq = 0; length = length_of t }) (outline_place (first_fail (outline_checks t)) t))) ≡ Ok h
           → Outlined t × (h ≡ head_of (own t))
       go true z q = (passes-outlined t (eqb-true (first_fail (outline_checks t)) 0 z), cc)
       go false z q = let x : ◌≡◌ {A = ℕ} 0 1 = cc in absurd (omega arith)
 
   -- any other outline is the answer of the first check that fails
-  pub not-outlined : (a : Answer) → outline_of t ≡ Not a
+  pub not-outlined : (a : Answer) → outline_of t ≡ Err a
       → (first_fail (outline_checks t) ≡ 0 → ⊥) × (a ≡ named (first_fail (outline_checks t)) (record { format = 0; seq = 0; length = length_of t }) (outline_place (first_fail (outline_checks t)) t))
   not-outlined a e = go (eqb (first_fail (outline_checks t)) 0) refl (answered t (first_fail (outline_checks t)) refl ∙ e)
     where
       go : (b : Bool) → eqb (first_fail (outline_checks t)) 0 ≡ b
-          → cond b (Whole (head_of (own t))) (Not (named (first_fail (outline_checks t)) (record { format = 0; seq = 0; length = length_of t }) (outline_place (first_fail (outline_checks t)) t))) ≡ Not a
+          → cond b (Ok (head_of (own t))) (Err (named (first_fail (outline_checks t)) (record { format = 0; seq = 0; length = length_of t }) (outline_place (first_fail (outline_checks t)) t))) ≡ Err a
           → (first_fail (outline_checks t) ≡ 0 → ⊥) × (a ≡ named (first_fail (outline_checks t)) (record { format = 0; seq = 0; length = length_of t }) (outline_place (first_fail (outline_checks t)) t))
       go true z q = let x : ◌≡◌ {A = ℕ} 0 1 = cc in absurd (omega arith)
       go false z q = (eqb-false (first_fail (outline_checks t)) 0 z, cc)
@@ -66,7 +65,7 @@ module _ (t u : List ℕ) where
   more-length : 3 ≤ length t → length_of (t ++ u) ≡ length_of t
   more-length = common.more-length header t u
 
-  module _ (settled : outline_of t ≡ Not (NoFrame 2 None) → ⊥) where
+  module _ (settled : outline_of t ≡ Err (NoFrame 2 None) → ⊥) where
     pub outline-more : outline_of (t ++ u) ≡ outline_of t
     outline-more = some (leb 1 (length t)) refl
       where
@@ -83,7 +82,7 @@ module _ (t u : List ℕ) where
         right three s true e = whole three s e (leb (length_of t) (length t)) refl
         right three s false e =
             sym (check-length (t ++ u) (omega (arith, longer)) (more-first (omega arith) ∙ s) (omega (arith, longer)) (more-right three ∙ e))
-            ∙ ap (λ (bs : List ℕ). Not (NoFrame 3 (first_bad length_cells 2 bs))) (more_bytes three)
+            ∙ ap (λ (bs : List ℕ). Err (NoFrame 3 (first_bad length_cells 2 bs))) (more_bytes three)
             ∙ check-length t (omega arith) s three e
 
         headed : (some : 1 ≤ length t) → get_or t 0 0 ≡ 27 → (b : Bool) → leb 3 (length t) ≡ b → outline_of (t ++ u) ≡ outline_of t

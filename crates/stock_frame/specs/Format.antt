@@ -1,10 +1,8 @@
 -- A format: its number, version and range of lengths, the cells of its body, and the rules on what the cells hold.
-use Rattle.std.specs.Prelude.{ℕ, ◌+◌, Bool, cond, ◌&&◌, List, [], ◌∷◌, length, eqb, leb}
+use Rattle.std.specs.Prelude.{ℕ, ◌+◌, Bool, cond, ◌&&◌, List, [], ◌∷◌, length, eqb, leb, None, Option}
 use Rattle.layout.specs.Cells.{Cell, size, good_cells, decode}
 use Rattle.layout.specs.Places.{first_bad}
 use Rattle.layout.specs.Checks.{Check, must, first_fail}
-use Rattle.digits.specs.declared.halves.Place.{Place}
-use Rattle.digits.specs.declared.halves.Place.TheVariants.{None}
 use Rattle.answers.specs.Answers.{named}
 use Rattle.answers.specs.declared.Answer.{Answer}
 use Rattle.answers.specs.declared.Answer.TheVariants.{Refused}
@@ -51,7 +49,7 @@ body_half = 20
 
 -- where the bad digit is that an answer to a body speaks of, in halves from the frame's first byte: beside 11 in the cells of the body;
 -- beside no other
-abbrev pub body_place : Format → List ℕ → ℕ → Place
+abbrev pub body_place : Format → List ℕ → ℕ → Option ℕ
 body_place F b n = cond (eqb n 11) (first_bad (F.cells b) body_half b) None
 
 -- what a body in a whole outline answers

@@ -1,14 +1,12 @@
 -- The common frame: 27, the length, business, format, version and number, the body, the check byte, 0D 0A.
-use Rattle.std.specs.Prelude.{ℕ, ◌+◌, ◌*◌, Bool, cond, List, [], ◌∷◌, length, get_or, eqb}
+use Rattle.std.specs.Prelude.{ℕ, ◌+◌, ◌*◌, Bool, cond, List, [], ◌∷◌, length, get_or, eqb, Err, Ok, Option, Result}
 use Rattle.layout.specs.Cells.{Cell, digits}
 use Rattle.layout.specs.Checks.{Check, first_fail}
-use Rattle.digits.specs.declared.halves.Place.{Place}
 use Rattle.answers.specs.Answers.{named}
 use Rattle.frame.specs.Header as common
 pub use Rattle.frame.specs.Header.{inner, check_byte, ended}
 use Rattle.stock_frame.specs.declared.head.Head.{Head}
-use Rattle.stock_frame.specs.declared.head.Outline.{Outline}
-use Rattle.stock_frame.specs.declared.head.Outline.TheVariants.{Whole, Not}
+use Rattle.answers.specs.declared.Answer.{Answer}
 
 -- business, format, version and number: bytes 4 to 10
 abbrev pub kind_cells : List Cell
@@ -67,10 +65,10 @@ head_of f = record { kind = (business f * 100 + format f) * 100 + version f; seq
 
 -- where the bad digit is that an answer speaks of, in halves from the frame's first byte: beside 3 in the length, if one is the cause;
 -- beside 6 in bytes 4 to 10; beside no other
-abbrev pub outline_place : ℕ → List ℕ → Place
+abbrev pub outline_place : ℕ → List ℕ → Option ℕ
 outline_place n t = common.outline_place header n t
 
-unfoldable pub outline_of : List ℕ → Outline
+unfoldable pub outline_of : List ℕ → Result Head Answer
 outline_of t =
     let n = first_fail (outline_checks t) in
-    cond (eqb n 0) (Whole (head_of (own t))) (Not (named n (record { format = 0; seq = 0; length = length_of t }) (outline_place n t)))
+    cond (eqb n 0) (Ok (head_of (own t))) (Err (named n (record { format = 0; seq = 0; length = length_of t }) (outline_place n t)))

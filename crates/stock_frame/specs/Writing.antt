@@ -1,11 +1,11 @@
 -- A frame written: 27, what it covers, the check byte, 0D 0A; and what a writing answers and leaves.
-use Rattle.std.specs.Prelude.{ℕ, ◌^◌, Bool, ◌&&◌, List, [], ◌∷◌, leb, ltb}
+use Rattle.std.specs.Prelude.{ℕ, ◌^◌, Bool, ◌&&◌, List, [], ◌∷◌, leb, ltb, Result}
 use Rattle.layout.specs.Cells.{Cell, encode}
 use Rattle.frame.specs.Writing as common
 pub use Rattle.frame.specs.Writing.{sealed, write_answer, written_over}
 use Rattle.stock_frame.specs.Outline.{header}
 use Rattle.stock_frame.specs.Format.{Format}
-use Rattle.answers.specs.declared.Written.{Written}
+use Rattle.answers.specs.declared.WriteError.{WriteError}
 
 -- the header's numbers
 abbrev pub head_values : ℕ → ℕ → ℕ → ℕ → List ℕ
@@ -24,7 +24,7 @@ abbrev pub closable : ℕ → ℕ → ℕ → ℕ → Bool
 closable format version seq n = ltb format 100 && (ltb version 100 && (ltb seq (10 ^ 8) && (leb 14 n && leb n 1024)))
 
 -- the body stands at its place in the buffer: what closing the frame of n bytes around it answers, and the buffer afterwards
-abbrev pub close_answer : ℕ → ℕ → ℕ → ℕ → List ℕ → Written
+abbrev pub close_answer : ℕ → ℕ → ℕ → ℕ → List ℕ → Result ℕ WriteError
 close_answer format version seq n buf = common.close_answer (closable format version seq n) n buf
 
 abbrev pub closed_over : ℕ → ℕ → ℕ → ℕ → List ℕ → List ℕ

@@ -5,7 +5,7 @@ ghost use Rattle.layout.specs.Cells.{encode};
 ghost use Rattle.stock_frame.specs.Outline.{head_cells};
 ghost use Rattle.stock_frame.specs.Writing.{head_values, close_answer, closed_over};
 
-use answers::Written;
+use answers::WriteError;
 use digits::fields::write;
 use words::xor::xor_of;
 
@@ -14,39 +14,33 @@ const MOST_KIND: u8 = 99;
 
 const MOST_SEQ: u32 = 99_999_999;
 
-// Writes the header behind 27.
+// Writes the header behind 27. It takes its numbers one by one, as `close` is given them: a struct made for this one call is no plainer.
 fn write_head(buf: &mut [u8], format: u8, version: u8, seq: u32, n: usize)
     requires { (10 ≤ length buf.old) × (format < 100) × (version < 100) × (seq < 10 ^ 8) × (n < 10 ^ 4) }
     ensures { buf.new ≡ sets buf.old 1 (encode head_cells (head_values n format version seq)) }
 {
-    write(n as u64, 2, buf, 1);
-    write(1, 1, buf, 3);
-    write(format as u64, 1, buf, 4);
-    write(version as u64, 1, buf, 5);
-    write(seq as u64, 4, buf, 6);
+    write(n as u64, 2, buf, 1).unwrap();
+    write(1, 1, buf, 3).unwrap();
+    write(format as u64, 1, buf, 4).unwrap();
+    write(version as u64, 1, buf, 5).unwrap();
+    write(seq as u64, 4, buf, 6).unwrap();
 }
 
 // Closes the frame of n bytes at the start of the buffer, whose body stands at its place there.
-pub fn close(buf: &mut [u8], format: u8, version: u8, seq: u32, n: usize) -> Written
+pub fn close(
+    buf: &mut [u8],
+    format: u8,
+    version: u8,
+    seq: u32,
+    n: usize,
+) -> Result<usize, WriteError>
     ensures { (result ≡ close_answer format version seq n buf.old) × (buf.new ≡ closed_over format version seq n buf.old) }
 {
-    if format > MOST_KIND {
-        return Written::Illegal;
-    }
-    if version > MOST_KIND {
-        return Written::Illegal;
-    }
-    if seq > MOST_SEQ {
-        return Written::Illegal;
-    }
-    if n < 14 {
-        return Written::Illegal;
-    }
-    if n > 1024 {
-        return Written::Illegal;
+    if format > MOST_KIND || version > MOST_KIND || seq > MOST_SEQ || n < 14 || n > 1024 {
+        return Err(WriteError::Illegal);
     }
     if buf.len() < n {
-        return Written::NoRoom;
+        return Err(WriteError::NoRoom);
     }
     buf[0] = 27;
     write_head(buf, format, version, seq, n);
@@ -54,5 +48,5 @@ pub fn close(buf: &mut [u8], format: u8, version: u8, seq: u32, n: usize) -> Wri
     buf[n - 3] = x;
     buf[n - 2] = 13;
     buf[n - 1] = 10;
-    Written::Done(n)
+    Ok(n)
 }

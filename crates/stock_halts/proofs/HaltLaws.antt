@@ -1,4 +1,5 @@
 -- Format nineteen is lawful: a halt and the numbers in its body tell each other; so both round trips hold of it.
+use Rattle.std.specs.Prelude.{None, Option, Some}
 use Prim.Native.Nat.{ℕ, ◌+◌, ◌/◌, ◌<◌}
 use mathlib.Core.Path.{◌≡◌, refl, sym, ap, ap₂, ◌∙◌}
 use mathlib.Core.Bool.{Bool, true, false, cond, ◌&&◌, ◌||◌}
@@ -16,8 +17,6 @@ use Rattle.stock_frame.specs.Codec.{legal, frame_of}
 use Rattle.layout.proofs.CellLaws.{length-decode}
 use Rattle.stock_frame.proofs.CodecLaws.{Lawful, Reads, legal-tidy, read-written, written_read}
 use Rattle.stock_halts.specs.Halts.{nineteen_cells, code_of, halt_time, resume_time, state_byte, round_times, times_right, code_fits, state_right, nineteen_ruled, nineteen, ascii_from, resume_of, event_of, sending_of, halt_of, resume_number, halt_number, resume_number_of, sending_byte, halt_values, same_resume, tidy_event, nineteen_codec, ShapedHalt}
-use Rattle.stock_halts.specs.declared.Resume.{Resume}
-use Rattle.stock_halts.specs.declared.Resume.TheVariants.{Open, At}
 use Rattle.stock_halts.specs.declared.Event.{Event}
 use Rattle.stock_halts.specs.declared.Event.TheVariants.{RoundEnd, Halted}
 use Rattle.stock_halts.specs.declared.Sending.{Sending}
@@ -33,7 +32,7 @@ not_so false h = refl
 resume-back : (r : ℕ) → resume_number (resume_of r) ≡ r
 resume-back r = go (eqb r (nines 0)) refl
   where
-    go : (t : Bool) → eqb r (nines 0) ≡ t → resume_number (cond t Open (At r)) ≡ r
+    go : (t : Bool) → eqb r (nines 0) ≡ t → resume_number (cond t None (Some r)) ≡ r
     go true e = sym (eqb-true r (nines 0) e)
     go false e = refl
 
@@ -58,14 +57,14 @@ state-back s h = go (eqb s 67) refl h
 same-resume : (r : ℕ) → same_resume (resume_of r) ≡ true
 same-resume r = go (eqb r (nines 0)) refl
   where
-    go : (t : Bool) → eqb r (nines 0) ≡ t → same_resume (cond t Open (At r)) ≡ true
+    go : (t : Bool) → eqb r (nines 0) ≡ t → same_resume (cond t None (Some r)) ≡ true
     go true e = refl
     go false e = ap (λ (t : Bool). cond t false true) e
 
 -- ---- the event, then its numbers, then the event again
-resume-again : (r : Resume) → same_resume r ≡ true → resume_of (resume_number r) ≡ r
-resume-again Open h = refl
-resume-again (At t) h = ap (λ (b : Bool). cond b Open (At t)) (not_so (eqb t (nines 0)) h)
+resume-again : (r : Option ℕ) → same_resume r ≡ true → resume_of (resume_number r) ≡ r
+resume-again None h = refl
+resume-again (Some t) h = ap (λ (b : Bool). cond b None (Some t)) (not_so (eqb t (nines 0)) h)
 
 event-again : (code : List ℕ) (e : Event) → tidy_event code e ≡ true → event_of code (halt_number e) (resume_number_of e) ≡ e
 event-again code (RoundEnd n) h = ap RoundEnd (sym (eqb-true n (ascii_from 0 code) h))

@@ -1,5 +1,4 @@
 -- The laws that the proofs cite, and the theorems that belong to no one function.
-pub mod CountLaws
 pub mod RuleLaws
 pub mod HaltLaws
 pub mod Determined

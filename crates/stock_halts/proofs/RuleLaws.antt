@@ -1,4 +1,5 @@
 -- The rules on a body's numbers and its event, one law for each way through the code.
+use Rattle.std.specs.Prelude.{Option, Some}
 use Prim.Native.Nat.{ℕ}
 use mathlib.Core.Path.{◌≡◌, refl, sym, ap, ◌∙◌}
 use mathlib.Core.Bool.{Bool, true, false, cond, ◌&&◌, not, and-false, or-true, or-false}
@@ -7,8 +8,6 @@ use borrow.Author.Tests.{eqb-true, eq-eqb, ne_eqb}
 use lib.Dec.{eqb}
 use Rattle.codes_times.specs.Times.{nines, time_of_day}
 use Rattle.stock_halts.specs.Halts.{round_times, times_right, ascii_from, same_resume, tidy_event}
-use Rattle.stock_halts.specs.declared.Resume.{Resume}
-use Rattle.stock_halts.specs.declared.Resume.TheVariants.{At}
 use Rattle.stock_halts.specs.declared.Event.{Event}
 use Rattle.stock_halts.specs.declared.Event.TheVariants.{RoundEnd, Halted}
 
@@ -39,11 +38,11 @@ module _ (h r : ℕ) where
 pub tidy-round : (code : List ℕ) (e : Event) (n : ℕ) → e ≡ RoundEnd n → tidy_event code e ≡ eqb n (ascii_from 0 code)
 tidy-round code e n p = ap (tidy_event code) p
 
-pub tidy-halted : (code : List ℕ) (e : Event) (t : ℕ) (r : Resume) → e ≡ Halted t r → (t ≡ nines 0 → ⊥) → tidy_event code e ≡ same_resume r
+pub tidy-halted : (code : List ℕ) (e : Event) (t : ℕ) (r : Option ℕ) → e ≡ Halted t r → (t ≡ nines 0 → ⊥) → tidy_event code e ≡ same_resume r
 tidy-halted code e t r p n = ap (tidy_event code) p ∙ ap (λ (x : Bool). cond x false true && same_resume r) (ne_eqb t (nines 0) n)
 
 -- a resume at a time, by a negated test
-pub same_at : (r : Resume) (t : ℕ) → r ≡ At t → same_resume r ≡ not (eqb t (nines 0))
+pub same_at : (r : Option ℕ) (t : ℕ) → r ≡ Some t → same_resume r ≡ not (eqb t (nines 0))
 same_at r t p = ap same_resume p ∙ go (eqb t (nines 0))
   where
     go : (x : Bool) → cond x false true ≡ not x

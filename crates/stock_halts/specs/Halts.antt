@@ -1,12 +1,10 @@
 -- Format nineteen, version 01, 26 bytes: code 6, halt time 3, resume time 3, state `C` or `I`.
-use Rattle.std.specs.Prelude.{ℕ, ◌+◌, ◌-◌, ◌*◌, ◌≡◌, Bool, true, false, cond, ◌&&◌, ◌||◌, List, [], ◌∷◌, ◌++◌, length, get_or, take, replicate, eqb, leb}
+use Rattle.std.specs.Prelude.{ℕ, ◌+◌, ◌-◌, ◌*◌, ◌≡◌, Bool, true, false, cond, ◌&&◌, ◌||◌, List, [], ◌∷◌, ◌++◌, length, get_or, take, replicate, eqb, leb, None, Option, Some}
 use Rattle.layout.specs.Cells.{Cell, raw, digits}
 use Rattle.layout.specs.Checks.{first_fail}
 use Rattle.stock_frame.specs.Format.{Format, values_of, body_checks, body_answer}
 use Rattle.codes_times.specs.Times.{time_of_day, nines, every, code_right}
 use Rattle.stock_frame.specs.Codec.{Codec}
-use Rattle.stock_halts.specs.declared.Resume.{Resume}
-use Rattle.stock_halts.specs.declared.Resume.TheVariants.{Open, At}
 use Rattle.stock_halts.specs.declared.Event.{Event}
 use Rattle.stock_halts.specs.declared.Event.TheVariants.{RoundEnd, Halted}
 use Rattle.stock_halts.specs.declared.Sending.{Sending}
@@ -77,8 +75,8 @@ ascii_from v [] = v
 ascii_from v (b ∷ bs) = ascii_from (v * 10 + (b - 48)) bs
 
 -- the message: a round's end gives its number of records in the code
-abbrev pub resume_of : ℕ → Resume
-resume_of t = cond (eqb t (nines 0)) Open (At t)
+abbrev pub resume_of : ℕ → Option ℕ
+resume_of t = cond (eqb t (nines 0)) None (Some t)
 
 abbrev pub event_of : List ℕ → ℕ → ℕ → Event
 event_of code h r = cond (round_times h r) (RoundEnd (ascii_from 0 code)) (Halted h (resume_of r))
@@ -95,9 +93,9 @@ halt_of seq vs = record {
 }
 
 -- the numbers of a message
-abbrev pub resume_number : Resume → ℕ
-resume_number Open = nines 0
-resume_number (At t) = t
+abbrev pub resume_number : Option ℕ → ℕ
+resume_number None = nines 0
+resume_number (Some t) = t
 
 abbrev pub halt_number : Event → ℕ
 halt_number (RoundEnd n) = nines 0
@@ -115,9 +113,9 @@ abbrev pub halt_values : Halt → List ℕ
 halt_values m = m.code ++ (halt_number m.event ∷ resume_number_of m.event ∷ sending_byte m.state ∷ [])
 
 -- the event is the one that the numbers tell: a round's end counts what its code says, a halt is not all nines, a resume at a time is not the open one
-abbrev pub same_resume : Resume → Bool
-same_resume Open = true
-same_resume (At t) = cond (eqb t (nines 0)) false true
+abbrev pub same_resume : Option ℕ → Bool
+same_resume None = true
+same_resume (Some t) = cond (eqb t (nines 0)) false true
 
 abbrev pub tidy_event : List ℕ → Event → Bool
 tidy_event code (RoundEnd n) = eqb n (ascii_from 0 code)

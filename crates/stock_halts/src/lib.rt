@@ -8,21 +8,12 @@ pub mod rules;
 
 use answers::Answer;
 
-// When trading is resumed.
-#[derive(Clone, Copy)]
-pub enum Resume {
-    // still open: 999999
-    Open,
-    // HHMMSS
-    At(u32),
-}
-
 #[derive(Clone, Copy)]
 pub enum Event {
     // the end of a round, with the number of records in it
     RoundEnd(u32),
-    // halted at HHMMSS
-    Halted(u32, Resume),
+    // halted at HHMMSS, and when trading is resumed, HHMMSS; none while that is still open: 999999
+    Halted(u32, Option<u32>),
 }
 
 // How the record is sent.
@@ -44,6 +35,7 @@ pub struct Halt {
 }
 
 // What reading a body finds; the halt is the empty one where the answer is a refusal.
+// It is no `Result`: beside a frame of another kind, which is accepted, stands the empty one too.
 #[derive(Clone, Copy)]
 pub struct HaltReading {
     pub answer: Answer,

@@ -1,4 +1,5 @@
 -- Reading a body: what its thirteen bytes hold, and one law for each answer.
+use Rattle.std.specs.Prelude.{None}
 use Prim.Native.Nat.{ℕ, ◌+◌, ◌*◌, ◌/◌, ◌%◌, ◌^◌, ◌≤◌}
 use mathlib.Core.Path.{◌≡◌, refl, sym, ap, ap₂, ◌∙◌}
 use mathlib.Core.Bool.{Bool, true, false, cond, ◌&&◌, and-true, and-false}
@@ -16,7 +17,6 @@ use Rattle.digits.proofs.Values.{even-field}
 use Rattle.layout.specs.Cells.{raw, digits, good_cells}
 use Rattle.layout.specs.Checks.{first_fail}
 use Rattle.answers.specs.Answers.{named}
-use Rattle.digits.specs.declared.halves.Place.TheVariants.{None}
 use Rattle.stock_frame.specs.Format.{ranged, values_of, body_checks, body_place, body_answer, digit_answer}
 use Rattle.answers.specs.declared.Answer.{Answer}
 use Rattle.answers.specs.declared.Answer.TheVariants.{Accepted, Refused}

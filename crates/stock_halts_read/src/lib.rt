@@ -1,8 +1,7 @@
 // Halts read out of a body.
 #![tactic(auto)]
 
-ghost use Rattle.std.specs.Prelude.{◌≡◌};
-ghost use Rattle.digits.specs.declared.halves.Place.TheVariants.{None};
+ghost use Rattle.std.specs.Prelude.{◌≡◌, None};
 ghost use Rattle.answers.specs.declared.Answer.TheVariants.{Refused};
 ghost use Rattle.stock_frame.specs.Format.{digit_answer};
 ghost use Rattle.stock_halts.specs.Halts.{nineteen_cells, halt_reading, no_halt};
@@ -14,7 +13,6 @@ use crate::parts::{event_of, sending_of, state_right};
 use crate::times::times_right;
 use answers::{Answer, Frame};
 use codes_times::code_at;
-use digits::halves::Place;
 use stock_frame::places::bad_digit;
 use stock_halts::rules::code_fits;
 use stock_halts::{Halt, HaltReading, NINES, empty};
@@ -24,7 +22,7 @@ use words::blocks::six_at;
 fn refused(n: u8, len: usize) -> HaltReading
     ensures { (result.answer ≡ Refused n len None) × (result.halt ≡ no_halt) }
 {
-    let answer = Answer::Refused(n, len, Place::None);
+    let answer = Answer::Refused(n, len, None);
     let halt = empty();
     HaltReading { answer, halt }
 }

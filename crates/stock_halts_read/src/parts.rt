@@ -4,40 +4,36 @@ ghost use Rattle.stock_halts.specs.Halts.{state_right, ascii_from, resume_of, se
 ghost use Rattle.stock_halts.specs.declared.Event.TheVariants.{RoundEnd, Halted};
 
 use stock_halts::rules::count_of;
-use stock_halts::{Event, NINES, Resume, Sending};
+use stock_halts::{Event, NINES, Sending};
 
 pub(crate) fn state_right(s: u8) -> bool
     ensures { result ≡ state_right s }
 {
-    if s == b'C' {
-        return true;
-    }
-    s == b'I'
+    matches!(s, b'C' | b'I')
 }
 
-fn resume_of(t: u32) -> Resume
+fn resume_of(t: u32) -> Option<u32>
     ensures { result ≡ resume_of t }
 {
-    if t == NINES {
-        return Resume::Open;
-    }
-    Resume::At(t)
+    (t != NINES).then_some(t)
 }
 
 pub(crate) fn event_of(code: [u8; 6], round: bool, h: u32, r: u32) -> Event
     ensures { result ≡ cond round (RoundEnd (ascii_from 0 code)) (Halted h (resume_of r)) }
 {
     if round {
-        return Event::RoundEnd(count_of(code));
+        Event::RoundEnd(count_of(code))
+    } else {
+        Event::Halted(h, resume_of(r))
     }
-    Event::Halted(h, resume_of(r))
 }
 
 pub(crate) fn sending_of(s: u8) -> Sending
     ensures { result ≡ sending_of s }
 {
     if s == b'C' {
-        return Sending::Cycle;
+        Sending::Cycle
+    } else {
+        Sending::Instant
     }
-    Sending::Instant
 }

@@ -21,7 +21,7 @@ fn day_at(s: &[u8], at: usize) -> bool
     x / 0x800000 % 2 == 0
 }
 
-// Both times of a body are right.
+// Both times of a body are right. Writing judges the numbers alone (`stock_halts_write`); here the bytes tell it with no division.
 pub(crate) fn times_right(body: &[u8], h: u32, r: u32) -> bool
     requires { (12 ≤ length body.now) × (good (take 3 (drop 6 body.now)) ≡ true) × (value (take 3 (drop 6 body.now)) ≡ h) × (good (take 3 (drop 9 body.now)) ≡ true) × (value (take 3 (drop 9 body.now)) ≡ r) }
     ensures { result ≡ times_right h r }
@@ -29,11 +29,5 @@ pub(crate) fn times_right(body: &[u8], h: u32, r: u32) -> bool
     if h == NINES {
         return r == NINES;
     }
-    if !day_at(body, 6) {
-        return false;
-    }
-    if r == NINES {
-        return true;
-    }
-    day_at(body, 9)
+    day_at(body, 6) && (r == NINES || day_at(body, 9))
 }

@@ -6,7 +6,7 @@ ghost use Rattle.stock_halts.specs.Halts.{nineteen_codec, times_right, same_resu
 use crate::numbers::{halt_time, resume_time};
 use codes_times::time_of_day;
 use stock_halts::rules::{code_fits, count_of};
-use stock_halts::{Event, Halt, NINES, Resume};
+use stock_halts::{Event, Halt, NINES};
 
 // A round's end, or a time of day and a resume that is open or a time of day.
 fn times_right(h: u32, r: u32) -> bool
@@ -15,23 +15,14 @@ fn times_right(h: u32, r: u32) -> bool
     if h == NINES {
         return r == NINES;
     }
-    if !time_of_day(h) {
-        return false;
-    }
-    if r == NINES {
-        return true;
-    }
-    time_of_day(r)
+    time_of_day(h) && (r == NINES || time_of_day(r))
 }
 
 // A resume at a time is not all nines.
-fn same_resume(r: Resume) -> bool
+fn same_resume(r: Option<u32>) -> bool
     ensures { result ≡ same_resume r }
 {
-    match r {
-        Resume::Open => true,
-        Resume::At(n) => n != NINES,
-    }
+    r != Some(NINES)
 }
 
 // The event is the one that its numbers tell.
@@ -40,12 +31,7 @@ fn tidy_event(code: [u8; 6], e: Event) -> bool
 {
     match e {
         Event::RoundEnd(n) => n == count_of(code),
-        Event::Halted(t, r) => {
-            if t == NINES {
-                return false;
-            }
-            same_resume(r)
-        }
+        Event::Halted(t, r) => t != NINES && same_resume(r),
     }
 }
 

@@ -13,7 +13,7 @@ mod numbers;
 
 use crate::judging::is_legal;
 use crate::numbers::{halt_time, resume_time, sending_byte};
-use answers::Written;
+use answers::WriteError;
 use layout::put_bytes;
 use stock_halts::Halt;
 
@@ -26,20 +26,20 @@ fn put_body(m: Halt, buf: &mut [u8])
     let event = m.event;
     let state = m.state;
     put_bytes(&code, buf, 10);
-    digits::fields::write(halt_time(event) as u64, 3, buf, 16);
-    digits::fields::write(resume_time(event) as u64, 3, buf, 19);
+    digits::fields::write(halt_time(event) as u64, 3, buf, 16).unwrap();
+    digits::fields::write(resume_time(event) as u64, 3, buf, 19).unwrap();
     buf[22] = sending_byte(state);
 }
 
 // Writes a halt as a frame at the start of the buffer.
-pub fn write(m: Halt, buf: &mut [u8]) -> Written
+pub fn write(m: Halt, buf: &mut [u8]) -> Result<usize, WriteError>
     ensures { (result ≡ write_answer (legal nineteen_codec m) (frame_of nineteen_codec m) buf.old) × (buf.new ≡ written_over (legal nineteen_codec m) (frame_of nineteen_codec m) buf.old) }
 {
     if !is_legal(m) {
-        return Written::Illegal;
+        return Err(WriteError::Illegal);
     }
     if buf.len() < 26 {
-        return Written::NoRoom;
+        return Err(WriteError::NoRoom);
     }
     put_body(m, buf);
     stock_frame::closing::close(buf, 19, 1, m.seq, 26)

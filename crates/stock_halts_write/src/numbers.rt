@@ -2,16 +2,13 @@
 ghost use Rattle.std.specs.Prelude.{◌≡◌};
 ghost use Rattle.stock_halts.specs.Halts.{resume_number, halt_number, resume_number_of, sending_byte};
 
-use stock_halts::{Event, NINES, Resume, Sending};
+use stock_halts::{Event, NINES, Sending};
 
 // A resume's number.
-fn resume_number(r: Resume) -> u32
+fn resume_number(r: Option<u32>) -> u32
     ensures { result ≡ resume_number r }
 {
-    match r {
-        Resume::Open => NINES,
-        Resume::At(n) => n,
-    }
+    r.unwrap_or(NINES)
 }
 
 // An event's two times.

@@ -1,4 +1,5 @@
 -- The next frame of a line from a place on: what it is at each kind of place, and that it stays the same further on.
+use Rattle.std.specs.Prelude.{Err, None, Ok, Result}
 use Prim.Native.Nat.{ℕ, zero, suc, ◌+◌, ◌≤◌, ◌<◌}
 use mathlib.Core.Path.{◌≡◌, refl, sym, ap, ◌∙◌, subst}
 use mathlib.Core.Bool.{Bool, true, false, cond}
@@ -8,13 +9,10 @@ use lib.ListN.{length, get_or, drop}
 use lib.Seq.{get_or-drop}
 use lib.Dec.{eqb, leb}
 use borrow.Author.Tests.{eqb-false, eq-eqb, ne_eqb, leb-true, leb-false}
-use Rattle.digits.specs.declared.halves.Place.TheVariants.{None}
 use Rattle.answers.specs.declared.Answer.{Answer}
 use Rattle.answers.specs.declared.Answer.TheVariants.{NoFrame}
 use Rattle.stock_frame.specs.Outline.{outline_of}
 use Rattle.stock_frame.specs.declared.head.Head.{Head}
-use Rattle.stock_frame.specs.declared.head.Outline.{Outline}
-use Rattle.stock_frame.specs.declared.head.Outline.TheVariants.{Whole, Not}
 use Rattle.stock_frame.proofs.OutlineLaws.{length-own, least-length}
 use Rattle.stock_frame.proofs.OutlineSteps.{check-first}
 use Rattle.stock_frame.proofs.PartLaws.{whole-outlined}
@@ -35,7 +33,7 @@ use Rattle.stock_lines.proofs.LineLaws.{sound-answers}
 use Rattle.stock_lines.proofs.FrameTheorems.{whole-past}
 
 -- a walk moves at a whole outline
-whole-moves : (c : Bool) (t : List ℕ) (h : Head) → outline_of t ≡ Whole h → past_of c (answer_of t) ≡ 0 → ⊥
+whole-moves : (c : Bool) (t : List ℕ) (h : Head) → outline_of t ≡ Ok h → past_of c (answer_of t) ≡ 0 → ⊥
 whole-moves c t h e z =
     let w = whole-outlined t h e in
     omega (arith, z, whole-past t h e c, ap (λ (x : Head). x.length) w.1, length-own t w.0, least-length t w.0)
@@ -52,12 +50,12 @@ module _ (c : Bool) (line : List ℕ) where
     frame-turn : (past_of c (answer_of t) ≡ 0 → ⊥) → next_frame c at line ≡ on_outline (outline_of t) at (next_frame c (at + past_of c (answer_of t)) line)
     frame-turn e = ap (λ (ms : List (Move Answer)). ahead_of line ms at) (walk_turn answer_of longest sound-answers c line at at h e).0
 
-    pub frame_here : (w : Head) → outline_of t ≡ Whole w → Frame w at ≡ next_frame c at line
+    pub frame_here : (w : Head) → outline_of t ≡ Ok w → Frame w at ≡ next_frame c at line
     frame_here w e =
         sym (frame-turn (whole-moves c t w e)
-        ∙ ap (λ (o : Outline). on_outline o at (next_frame c (at + past_of c (answer_of t)) line)) e)
+        ∙ ap (λ (o : Result Head Answer). on_outline o at (next_frame c (at + past_of c (answer_of t)) line)) e)
 
-    module _ (a : Answer) (e : outline_of t ≡ Not a) (n : ℕ) (p : n ≡ past_of c a) where
+    module _ (a : Answer) (e : outline_of t ≡ Err a) (n : ℕ) (p : n ≡ past_of c a) where
       past_is : n ≡ past_of c (answer_of t)
       past_is = p ∙ ap (past_of c) (answer-not t a e)
 
@@ -77,7 +75,7 @@ module _ (c : Bool) (line : List ℕ) where
           ∙ (λ i. on_outline (e i) at (next_frame c (at + sym past_is i) line)))
 
   -- bytes before the next 27
-  no-outline : (at : ℕ) → at < length line → (get_or line at 0 ≡ 27 → ⊥) → outline_of (drop at line) ≡ Not (NoFrame 1 None)
+  no-outline : (at : ℕ) → at < length line → (get_or line at 0 ≡ 27 → ⊥) → outline_of (drop at line) ≡ Err (NoFrame 1 None)
   no-outline at h other =
       sym (check-first (drop at line) (some_left answer_of longest sound-answers c line at h)
       (λ q. other (ap (λ (k : ℕ). get_or line k 0) (omega arith) ∙ sym (get_or-drop at line 0 0) ∙ q)))
@@ -112,14 +110,14 @@ module _ {c : Bool} {line : List ℕ} {at : ℕ} {m : Met} (M : MetAt c line at 
 
   -- what is met is noise, or what the outline says
   by-outline : (P : Type 0)
-      → ((w : Head) → outline_of bytes ≡ Whole w → m ≡ MetWhole w → P)
-      → ((a : Answer) → outline_of bytes ≡ Not a → m ≡ Past (past_of c a) → P)
+      → ((w : Head) → outline_of bytes ≡ Ok w → m ≡ MetWhole w → P)
+      → ((a : Answer) → outline_of bytes ≡ Err a → m ≡ Past (past_of c a) → P)
       → (1 ≤ noise_length bytes → m ≡ Past (noise_length bytes) → P) → P
   by-outline P whole none noise = go (eqb (noise_length bytes) 0) refl M.is
     where
-      said : (o : Outline) → outline_of bytes ≡ o → m ≡ met_outline c o → P
-      said (Whole w) e q = whole w e q
-      said (Not a) e q = none a e q
+      said : (o : Result Head Answer) → outline_of bytes ≡ o → m ≡ met_outline c o → P
+      said (Ok w) e q = whole w e q
+      said (Err a) e q = none a e q
 
       go : (x : Bool) → eqb (noise_length bytes) 0 ≡ x → m ≡ cond x (met_outline c (outline_of bytes)) (Past (noise_length bytes)) → P
       go true e q = said (outline_of bytes) refl q
@@ -137,7 +135,7 @@ module _ {c : Bool} {line : List ℕ} {at : ℕ} {m : Met} (M : MetAt c line at 
   pub met-frame : (w : Head) → m ≡ MetWhole w → Frame w at ≡ next_frame c at line
   met-frame w p =
       by-outline (Frame w at ≡ next_frame c at line)
-      (λ v e q. frame_here c line at M.left_over w (e ∙ ap Whole (sym (same_head v w q p))))
+      (λ v e q. frame_here c line at M.left_over w (e ∙ ap Ok (sym (same_head v w q p))))
       (λ a e q. other p q)
       (λ h q. other p q)
 
@@ -163,5 +161,5 @@ module _ (c : Bool) (line : List ℕ) (at n : ℕ) (is : n ≡ noise_length (dro
   pub met-noise : 0 < n → Past n ≡ met_of c (drop at line)
   met-noise h = rw (ne_eqb (noise_length (drop at line)) 0 (λ e. omega (arith, is, e))) (ap Past is)
 
-  pub met-outline : n ≤ 0 → (o : Outline) → o ≡ outline_of (drop at line) → met_outline c o ≡ met_of c (drop at line)
+  pub met-outline : n ≤ 0 → (o : Result Head Answer) → o ≡ outline_of (drop at line) → met_outline c o ≡ met_of c (drop at line)
   met-outline h o e = rw (eq-eqb (noise_length (drop at line)) 0 (omega (arith, is))) (ap (met_outline c) e)

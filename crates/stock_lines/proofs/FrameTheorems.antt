@@ -1,5 +1,6 @@
 -- What the frames that are handed out unread are to the walk: no accepted frame is left out, and behind a frame's length the
 -- walk goes on.
+use Rattle.std.specs.Prelude.{Err, Ok, Option, Result}
 use Prim.Native.Nat.{ℕ, ◌≤◌}
 use mathlib.Core.Path.{◌≡◌, refl, sym, ap, ◌∙◌}
 use mathlib.Core.Bool.{Bool, true, false, cond}
@@ -9,23 +10,21 @@ use lib.Dec.{eqb, leb}
 use borrow.Author.Tests.{eqb-false, ne_eqb, le-leb, leb-true, leb-false}
 use Rattle.layout.specs.Checks.{Check, first_fail}
 use Rattle.layout.proofs.CheckLaws.{silent, silent-answers}
-use Rattle.digits.specs.declared.halves.Place.{Place}
 use Rattle.answers.specs.Answers.{named}
 use Rattle.answers.specs.declared.Frame.{Frame}
 use Rattle.answers.specs.declared.Answer.TheVariants.{Accepted, NoFrame, Refused}
 use Rattle.stock_frame.specs.Outline.{length_of, own, body, business, format, version, sequence, head_of, outline_of, outline_checks, outline_place}
 use Rattle.stock_frame.specs.Format.{body_checks}
 use Rattle.stock_frame.specs.declared.head.Head.{Head}
-use Rattle.stock_frame.specs.declared.head.Outline.{Outline}
-use Rattle.stock_frame.specs.declared.head.Outline.TheVariants.{Whole, Not}
 use Rattle.stock_frame.proofs.OutlineLaws.{length-own}
 use Rattle.stock_frame.proofs.PartLaws.{whole-outlined, not-outlined}
 use Rattle.stock_reading.specs.Reading.{format_of, kind_checks, checks, place_of, answer_of}
 use Rattle.stock_reading.proofs.ReadingLaws.{checks-outlined, answer-not}
 use Rattle.walk.specs.Answers.{past_of}
+use Rattle.answers.specs.declared.Answer.{Answer}
 
 -- ---- an accepted frame is handed out
-refusal : (n : ℕ) (f g : Frame) (p : Place) → (n ≡ 0 → ⊥) → named n f p ≡ Accepted g → ⊥
+refusal : (n : ℕ) (f g : Frame) (p : Option ℕ) → (n ≡ 0 → ⊥) → named n f p ≡ Accepted g → ⊥
 refusal n f g p h e = go (leb n 5) (sym (ap (λ (b : Bool). cond b (Accepted f) (cond (leb n 5) (NoFrame n p) (Refused n f.length p))) (ne_eqb n 0 h)) ∙ e)
   where
     go : (b : Bool) → cond b (NoFrame n p) (Refused n f.length p) ≡ Accepted g → ⊥
@@ -33,17 +32,17 @@ refusal n f g p h e = go (leb n 5) (sym (ap (λ (b : Bool). cond b (Accepted f) 
     go false q = let z : ◌≡◌ {A = ℕ} 0 1 = cc in omega arith
 
 -- the outline of an accepted frame is whole, with the header of its own bytes
-pub accepted-whole : (t : List ℕ) (f : Frame) → answer_of t ≡ Accepted f → outline_of t ≡ Whole (head_of (own t))
+pub accepted-whole : (t : List ℕ) (f : Frame) → answer_of t ≡ Accepted f → outline_of t ≡ Ok (head_of (own t))
 accepted-whole t f a = go (outline_of t) refl
   where
-    go : (o : Outline) → outline_of t ≡ o → o ≡ Whole (head_of (own t))
-    go (Whole h) e = ap Whole (whole-outlined t h e).1
-    go (Not x) e =
+    go : (o : Result Head Answer) → outline_of t ≡ o → o ≡ Ok (head_of (own t))
+    go (Ok h) e = ap Ok (whole-outlined t h e).1
+    go (Err x) e =
         let n = not-outlined t x e in
         absurd (refusal (first_fail (outline_checks t)) (record { format = 0; seq = 0; length = length_of t }) f (outline_place (first_fail (outline_checks t)) t) n.0 (sym n.1 ∙ answer-not t x e ∙ a))
 
 -- ---- behind its length the walk goes on
-module _ (t : List ℕ) (h : Head) (e : outline_of t ≡ Whole h) where
+module _ (t : List ℕ) (h : Head) (e : outline_of t ≡ Ok h) where
   abbrev after : List Check
   after = kind_checks (business (own t)) (format (own t)) (version (own t)) ++ body_checks (format_of (format (own t))) (body (own t))
 

@@ -1,5 +1,5 @@
 -- The stock exchange's line: its reading, with and without the messages, and what the calls say of a walk over it.
-use Rattle.std.specs.Prelude.{ℕ, ◌+◌, Bool, cond, List, [], ◌∷◌, drop, eqb}
+use Rattle.std.specs.Prelude.{ℕ, ◌+◌, Bool, cond, List, [], ◌∷◌, drop, eqb, Err, Ok, Option, Result}
 use Rattle.answers.specs.Answers.{answer_number, answer_length}
 use Rattle.answers.specs.declared.Answer.{Answer}
 use Rattle.answers.specs.declared.Answer.TheVariants.{Accepted, NoFrame, Refused}
@@ -12,15 +12,14 @@ use Rattle.stock_prices.specs.declared.Prices.{Prices}
 use Rattle.stock_halts.specs.Halts.{nineteen_codec, no_halt}
 use Rattle.stock_halts.specs.declared.Halt.{Halt}
 use Rattle.stock_frame.specs.Outline.{outline_of}
-use Rattle.stock_frame.specs.declared.head.Outline.{Outline}
-use Rattle.stock_frame.specs.declared.head.Outline.TheVariants.{Whole, Not}
 use Rattle.stock_reading.specs.Reading.{answer_of, message_by}
 use Rattle.walk.specs.Walk.{Reading, Move, walk_from}
 use Rattle.walk.specs.Answers.{answering}
 use Rattle.walk.specs.Lines as lines
-use Rattle.walk.specs.declared.moves.Step.{Step}
 use Rattle.stock_lines.specs.declared.frames.Ahead.{Ahead}
 use Rattle.stock_lines.specs.declared.frames.Ahead.TheVariants.{Frame, Nothing}
+use Rattle.stock_frame.specs.declared.head.Head.{Head}
+use Rattle.walk.specs.declared.rows.Row.{Row}
 
 -- the reading of the frames, by their answers
 abbrev pub answers : Reading Answer
@@ -61,13 +60,13 @@ sayings = record {
 }
 
 -- the move at a place of a line, or that the walk stops there
-abbrev pub move_at : Bool → ℕ → List ℕ → Step
+abbrev pub move_at : Bool → ℕ → List ℕ → Option Row
 move_at closed at line = lines.move_at answer_of closed at line
 
 -- a frame whose outline is whole, or what is met further on
-abbrev pub on_outline : Outline → ℕ → Ahead → Ahead
-on_outline (Whole h) at further = Frame h at
-on_outline (Not a) at further = further
+abbrev pub on_outline : Result Head Answer → ℕ → Ahead → Ahead
+on_outline (Ok h) at further = Frame h at
+on_outline (Err a) at further = further
 
 -- the first such frame among some moves from a place on
 abbrev pub ahead_of : List ℕ → List (Move Answer) → ℕ → Ahead

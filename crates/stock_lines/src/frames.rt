@@ -4,11 +4,12 @@ ghost use Rattle.std.specs.Prelude.{◌≡◌, drop};
 ghost use Rattle.stock_lines.specs.Lines.{next_frame};
 ghost use Rattle.stock_lines.specs.Steps.{met_of};
 
-use stock_frame::head::{Head, Outline};
+use stock_frame::head::Head;
 use stock_frame::outline::outline;
 use walk::past::past;
 use walk::stretch::noise;
 
+// Both outcomes have a place of their own, and neither is an error: a pair of an Option and a place would give the place two meanings.
 #[derive(Clone, Copy)]
 pub enum Ahead {
     // the header of the next frame, and its place on the line
@@ -17,7 +18,7 @@ pub enum Ahead {
     Nothing(usize),
 }
 
-// What a walk meets at a place: a frame, or bytes to go past, 0 where the walk stops.
+// What a walk meets at a place: a frame, or bytes to go past, 0 where the walk stops; neither is an error.
 #[derive(Clone, Copy)]
 enum Met {
     Whole(Head),
@@ -33,8 +34,8 @@ fn met_at(line: &[u8], at: usize, closed: bool) -> Met
         return Met::Past(n);
     }
     match outline(line, at) {
-        Outline::Whole(head) => Met::Whole(head),
-        Outline::Not(answer) => {
+        Ok(head) => Met::Whole(head),
+        Err(answer) => {
             let n = past(answer, closed);
             Met::Past(n)
         }
@@ -46,6 +47,7 @@ pub fn next_frame(line: &[u8], at: usize, closed: bool) -> Ahead
     ensures { result ≡ next_frame closed at line.now }
 {
     let mut at = at;
+    // no range: a turn goes past as many bytes as were met
     while at < line.len() {
         match met_at(line, at, closed) {
             Met::Whole(head) => {

@@ -15,30 +15,23 @@ pub struct Notice {
     pub text: [u8; 60],
 }
 
-// What reading a body finds; the notice is the empty one where the answer is a refusal.
+// What reading a body finds; the notice is the empty one where the answer is a refusal. It is no `Result`: beside a
+// frame of another kind, which is accepted, stands the empty one too.
 #[derive(Clone, Copy)]
 pub struct NoticeReading {
     pub answer: Answer,
     pub notice: Notice,
 }
 
-// No text.
-fn zeros() -> [u8; 60]
-    ensures { result ≡ replicate room 0 }
-{
-    [0u8; 60]
-}
-
 // The empty notice, which stands beside a refusal.
 pub fn empty() -> Notice
     ensures { result ≡ no_notice }
 {
-    let text = zeros();
     Notice {
         seq: 0,
         category: 0,
         length: 0,
-        text,
+        text: [0; 60],
     }
 }
 
@@ -46,8 +39,5 @@ pub fn empty() -> Notice
 pub fn known(category: u8) -> bool
     ensures { result ≡ five_ruled (category ∷ []) }
 {
-    match category {
-        0 | 9 | 90 | 99 => true,
-        _ => false,
-    }
+    matches!(category, 0 | 9 | 90 | 99)
 }

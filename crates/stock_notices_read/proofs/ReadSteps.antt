@@ -1,4 +1,5 @@
 -- Reading a body: what each test tells of the checks, and the answer at each return.
+use Rattle.std.specs.Prelude.{None}
 use Prim.Native.Nat.{ℕ, suc, ◌+◌, ◌-◌, ◌*◌, ◌/◌, ◌%◌, ◌≤◌, ◌<◌}
 use mathlib.Core.Path.{◌≡◌, refl, sym, ap, ap₂, ◌∙◌}
 use mathlib.Core.Bool.{Bool, true, false, cond, ◌&&◌, and-true}
@@ -12,7 +13,6 @@ use Rattle.digits.specs.Packed.{two, good_byte, good_field}
 use Rattle.digits.proofs.Bools.{and_both}
 use Rattle.digits.proofs.PackedLaws.{two-lt}
 use Rattle.digits.specs.Halves.{bad_field, or_else}
-use Rattle.digits.specs.declared.halves.Place.TheVariants.{None}
 use Rattle.layout.specs.Cells.{raw, digits, size, good_cells, decode}
 use Rattle.layout.proofs.PlaceLaws.{first_bad-raws}
 use Rattle.layout.specs.Checks.{first_fail}

@@ -1,27 +1,18 @@
 // Notices read out of a body.
 #![tactic(auto)]
 
-ghost use Rattle.std.specs.Prelude.{◌+◌, ◌^◌, ◌<◌, ◌≡◌, replicate, [], ◌∷◌};
+ghost use Rattle.std.specs.Prelude.{◌+◌, ◌^◌, ◌<◌, ◌≡◌, [], ◌∷◌, None};
 ghost use Rattle.layout.specs.Cells.{digits};
 ghost use Rattle.stock_frame.specs.Format.{digit_answer};
-ghost use Rattle.digits.specs.declared.halves.Place.TheVariants.{None};
-ghost use Rattle.stock_notices.specs.Notices.{notice_reading, no_notice, room};
+ghost use Rattle.stock_notices.specs.Notices.{notice_reading, no_notice};
 
 use answers::{Answer, Frame};
-use digits::halves::Place;
 use layout::put_bytes;
 use stock_frame::places::bad_digit;
 use stock_notices::{Notice, NoticeReading, empty, known};
 
-// No text.
-fn zeros() -> [u8; 60]
-    ensures { result ≡ replicate room 0 }
-{
-    let notice = empty();
-    notice.text
-}
-
-// A refusal of a body of n bytes, with the empty notice.
+// A refusal of a body of n bytes, with the empty notice. Each reader has its own: their readings are of different types, and one
+// call for all would be a trait with an impl beside each of these.
 fn refused(number: u8, n: usize) -> NoticeReading
     requires { n < 2 ^ 63 }
     ensures { (result.answer ≡ Answer.Refused number (13 + n) None) × (result.notice ≡ no_notice) }
@@ -29,7 +20,7 @@ fn refused(number: u8, n: usize) -> NoticeReading
     let notice = empty();
     let length = 13 + n;
     NoticeReading {
-        answer: Answer::Refused(number, length, Place::None),
+        answer: Answer::Refused(number, length, None),
         notice,
     }
 }
@@ -75,7 +66,7 @@ pub fn read(body: &[u8], seq: u32) -> NoticeReading
         return refused(13, n);
     }
     let long = n - 1;
-    let mut text = zeros();
+    let mut text = [0u8; 60];
     put_bytes(&body[1..], &mut text, 0);
     let length = 13 + n;
     NoticeReading {

@@ -1,14 +1,14 @@
 -- Writing a notice: what each test tells of its legality, and the bytes of its body.
+use Rattle.std.specs.Prelude.{Err, Result}
 use Prim.Native.Nat.{ℕ, ◌+◌, ◌-◌, ◌/◌, ◌%◌, ◌^◌, ◌≤◌, ◌<◌}
 use mathlib.Core.Path.{◌≡◌, refl, sym, ap, ap₂, ◌∙◌}
-use mathlib.Core.Bool.{Bool, true, false, ◌&&◌}
+use mathlib.Core.Bool.{Bool, true, false}
 use mathlib.Core.List.{List, [], ◌∷◌, ◌++◌}
-use native.Mathlib.Numerals.{add-one}
 use native.Mathlib.Omega.{arith}
-use lib.ListN.{length, get_or, take, drop, set, replicate, length-set, drop_of_length-le}
-use lib.Seq.{drop-cons, take-length, sets}
+use lib.ListN.{length, take, drop, set, replicate, length-set}
+use lib.Seq.{take-length, sets}
 use lib.Dec.{eqb, ltb}
-use borrow.Author.Tests.{eq-eqb, ne_eqb, ltb-true, ltb-false, lt-ltb, le-leb}
+use borrow.Author.Tests.{ne_eqb, ltb-true, ltb-false, lt-ltb, le-leb}
 use Rattle.digits.specs.Packed.{byte_of}
 use Rattle.digits.proofs.Bools.{and_both, no_false}
 use Rattle.layout.specs.Cells.{size, encode}
@@ -17,7 +17,6 @@ use Rattle.codes_times.specs.Times.{every}
 use Rattle.stock_frame.specs.Codec.{legal, frame_of}
 use Rattle.stock_frame.specs.Writing.{write_answer, written_over, close_answer, closed_over}
 use Rattle.layout.specs.Bytes.{bytes_over}
-use Rattle.answers.specs.declared.Written.{Written}
 use Rattle.stock_frame.proofs.CodecLaws.{legal-seq, legal-ruled, legal-tidy}
 use Rattle.stock_notices.specs.Notices.{five_cells, five_ruled, room, notice_from, notice_values, tidy_notice, five_codec, ShapedNotice}
 use Rattle.stock_notices.specs.declared.Notice.{Notice}
@@ -25,23 +24,8 @@ use Rattle.stock_notices.proofs.RawLaws.{fits-raws, encode-raws}
 use Rattle.layout.proofs.PutLaws.{bytes-in}
 use Rattle.stock_frame.proofs.MessageLaws.{message-short, message-closed}
 use Rattle.stock_notices.proofs.NoticeLaws.{size-five, legal-text, notices-lawful, text-put, length-filled, text-back, rest-tidy}
-
--- ---- zeros from a place on
--- the next byte is zero, and those behind it
-pub zeros-at : (l : List ℕ) (k : ℕ) → k < length l → every (eqb 0) (drop k l) ≡ (eqb 0 (get_or l k 0) && every (eqb 0) (drop (k + 1) l))
-zeros-at l k h = rw (add-one, drop-cons l k 0)
-
--- a byte that is not zero
-pub zeros-broken : (l : List ℕ) (k : ℕ) → k < length l → (get_or l k 0 ≡ 0 → ⊥) → every (eqb 0) (drop k l) ≡ false
-zeros-broken l k h n = zeros-at l k h ∙ rw (ne_eqb 0 (get_or l k 0) (λ e. n (sym e)))
-
--- a byte that is
-pub zeros-next : (l : List ℕ) (k : ℕ) → k < length l → get_or l k 0 ≡ 0 → every (eqb 0) (drop (k + 1) l) ≡ every (eqb 0) (drop k l)
-zeros-next l k h e = sym (zeros-at l k h ∙ rw (eq-eqb 0 (get_or l k 0) (sym e)))
-
--- no byte left
-pub zeros-end : (l : List ℕ) (k : ℕ) → length l ≤ k → every (eqb 0) (drop k l) ≡ true
-zeros-end l k h = rw (drop_of_length-le l h)
+use Rattle.answers.specs.declared.WriteError.{WriteError}
+use Rattle.answers.specs.declared.WriteError.TheVariants.{NoRoom}
 
 -- ---- what each test tells of a notice
 module _ (m : Notice) where
@@ -123,7 +107,7 @@ module _ (seq category : ℕ) (text : List ℕ) (h : seq ≤ 99999999) (k : leng
       (sym (encode-raws n (take n m.text) ∙ ap (take n) text-kept ∙ take-length text))
 
   -- the frame closed around it
-  pub notice-written : (buf t u : List ℕ) (r : Written) → 14 + n ≤ length buf
+  pub notice-written : (buf t u : List ℕ) (r : Result ℕ WriteError) → 14 + n ≤ length buf
       → t ≡ bytes_over text (set buf 10 (byte_of category)) 11
       → (r ≡ close_answer 5 1 seq (14 + n) t) × (u ≡ closed_over 5 1 seq (14 + n) t)
       → (r ≡ write_answer (legal five_codec m) (frame_of five_codec m) buf) × (u ≡ written_over (legal five_codec m) (frame_of five_codec m) buf)
@@ -134,5 +118,5 @@ module _ (seq category : ℕ) (text : List ℕ) (h : seq ≤ 99999999) (k : leng
 
   -- no room for it
   pub notice-room : (buf : List ℕ) → length buf < 14 + n
-      → (Written.NoRoom ≡ write_answer (legal five_codec m) (frame_of five_codec m) buf) × (buf ≡ written_over (legal five_codec m) (frame_of five_codec m) buf)
+      → (Err NoRoom ≡ write_answer (legal five_codec m) (frame_of five_codec m) buf) × (buf ≡ written_over (legal five_codec m) (frame_of five_codec m) buf)
   notice-room buf short = message-short five_codec ShapedNotice notices-lawful m shaped lawful buf (omega (arith, whole-notice))

@@ -35,6 +35,7 @@ pub struct Prices {
 }
 
 // What reading a body finds; the prices are the empty ones where the answer is a refusal.
+// It is no `Result`: beside a frame of another kind, which is accepted, stands the empty one too.
 #[derive(Clone, Copy)]
 pub struct PricesReading {
     pub answer: Answer,

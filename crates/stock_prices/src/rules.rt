@@ -1,6 +1,7 @@
 // The rules on one slot.
 ghost use Rattle.std.specs.Prelude.{◌+◌, ◌*◌, ◌≡◌, ◌&&◌, eqb, leb, ltb};
-ghost use Rattle.codes_times.specs.Times.{time_of_day, nines, every};
+ghost use Rattle.std.specs.List.{list_all};
+ghost use Rattle.codes_times.specs.Times.{time_of_day, nines};
 ghost use Rattle.stock_prices.specs.Prices.{parts_right, slot_ruled, slot_values};
 
 use crate::Slot;
@@ -12,80 +13,45 @@ pub const ABOVE_EIGHT: u64 = 100_000_000;
 fn day_of(hhmm: u32, rest: u32) -> bool
     ensures { result ≡ (ltb rest 100000000 && time_of_day 6 (hhmm * 100000000 + rest)) }
 {
-    if hhmm > 2399 {
-        return false;
-    }
-    if hhmm % 100 > 59 {
-        return false;
-    }
-    rest < 60_000_000
+    hhmm <= 2399 && hhmm % 100 <= 59 && rest < 60_000_000
 }
 
 // All nines: the closing price.
 fn all_nines(hhmm: u32, rest: u32) -> bool
     ensures { result ≡ (ltb rest 100000000 && eqb (hhmm * 100000000 + rest) (nines 6)) }
 {
-    if hhmm != 9999 {
-        return false;
-    }
-    rest == 99_999_999
+    hhmm == 9999 && rest == 99_999_999
 }
 
 // A slot's time by its hours and minutes and its last eight digits: one of day, or in a counted slot all nines.
 pub fn time_right(hhmm: u32, rest: u32, counted: bool) -> bool
     ensures { result ≡ parts_right counted hhmm rest }
 {
-    if day_of(hhmm, rest) {
-        return true;
-    }
-    if counted {
-        return all_nines(hhmm, rest);
-    }
-    false
+    day_of(hhmm, rest) || counted && all_nines(hhmm, rest)
 }
 
 // Every byte of a code lies between two.
 fn all_between(code: [u8; 6], low: u8, high: u8) -> bool
-    ensures { result ≡ every (λ b. leb low b && leb b high) code }
+    ensures { result ≡ list_all (λ b. leb low b && leb b high) code }
 {
-    let mut i = 0;
-    while i < 6 {
-        let b = code[i];
-        if b < low {
-            return false;
-        }
-        if b > high {
-            return false;
-        }
-        i += 1;
-    }
-    true
+    code.iter().all(|b| (low..=high).contains(b))
 }
 
 // Every number is zero.
 fn all_zero(amounts: [u64; 6]) -> bool
-    ensures { result ≡ every (eqb 0) amounts }
+    ensures { result ≡ list_all (eqb 0) amounts }
 {
-    let mut i = 0;
-    while i < 6 {
-        if amounts[i] > 0 {
-            return false;
-        }
-        i += 1;
-    }
-    true
+    amounts.iter().all(|n| *n == 0)
 }
 
 // The fields of a slot, counted or not.
+#[tactic(auto, using(crate::proofs::RuleLaws::ruled_is))]
 pub fn slot_right(s: Slot, counted: bool) -> bool
     ensures { result ≡ slot_ruled counted (slot_values s) }
 {
     let code = s.code;
     if counted {
         return all_between(code, 32, 126);
-    }
-    if !all_between(code, 32, 32) {
-        return false;
     }
     let amounts = [
         s.opening.0 as u64,
@@ -95,5 +61,5 @@ pub fn slot_right(s: Slot, counted: bool) -> bool
         s.total.0 as u64,
         s.time,
     ];
-    all_zero(amounts)
+    all_between(code, 32, 32) && all_zero(amounts)
 }

@@ -1,4 +1,5 @@
 -- What reading a body answers: the check that fails first, and the prices where every check holds.
+use Rattle.std.specs.Prelude.{None}
 use Prim.Native.Nat.{ℕ, ◌+◌, ◌*◌, ◌/◌, ◌%◌, ◌<◌}
 use mathlib.Core.Path.{◌≡◌, refl, sym, ap, ap₂, ◌∙◌}
 use mathlib.Core.Bool.{Bool, true, false, cond, ◌&&◌, and-true}
@@ -16,7 +17,6 @@ use Rattle.layout.specs.Checks.{first_fail}
 use Rattle.answers.specs.Answers.{named}
 use Rattle.answers.specs.declared.Answer.{Answer}
 use Rattle.answers.specs.declared.Frame.{Frame}
-use Rattle.digits.specs.declared.halves.Place.TheVariants.{None}
 use Rattle.stock_frame.specs.Format.{ranged, body_checks, body_place, body_answer, digit_answer}
 use Rattle.stock_frame.proofs.BodyCheckLaws.{fails-range, fails-digits, fails-times, fails-fields, fails-none, refused-answer, digit-answer}
 use Rattle.stock_prices.specs.declared.Slot.{Slot}

@@ -1,4 +1,5 @@
 -- A slot read out of bytes: what each field's call tells of its bytes, and what the fields tell of the slot.
+use Rattle.std.specs.Prelude.{Option, None, Some}
 use Prim.Native.Nat.{ℕ, ◌+◌, ◌*◌, ◌^◌, ◌≤◌, ◌<◌}
 use mathlib.Core.Path.{◌≡◌, refl, sym, ap, ap₂, ◌∙◌}
 use mathlib.Core.Bool.{Bool, true, false, cond, ◌&&◌, and-true}
@@ -12,10 +13,8 @@ use Rattle.amounts.specs.Amounts.{as_price, as_quantity, price_at, pair_at, pric
 use Rattle.words.specs.Blocks.{block_at, block_of, no_block}
 use Rattle.amounts.specs.declared.Price.{Price}
 use Rattle.amounts.specs.declared.Pair.{Pair}
-use Rattle.amounts.specs.declared.PriceField.{PriceField}
-use Rattle.amounts.specs.declared.PairField.{PairField}
 use Rattle.words.specs.declared.blocks.Block.{Block}
-use Rattle.digits.proofs.Bools.{no_false, and_right}
+use Rattle.digits.proofs.Bools.{and_right}
 use Rattle.digits.proofs.Places.{inside}
 use Rattle.digits.proofs.PackedLaws.{value-lt, value-parts}
 use Rattle.digits.proofs.Values.{good-split, even-field}
@@ -26,7 +25,6 @@ use Rattle.stock_prices.specs.declared.Slot.{Slot}
 use Rattle.stock_prices.specs.Prices.{slot_cells, slot_of, slot_values, slot_timed, slot_ruled, time_right, parts_right}
 use Rattle.stock_prices.proofs.PriceLaws.{amount_cells, slot-made, slot_values-of}
 use Rattle.stock_prices_read.specs.declared.slots.Figures.{Figures}
-use Rattle.stock_prices_read.specs.declared.slots.FiguresField.{FiguresField}
 use Rattle.stock_prices_read.specs.Steps.{figures_good, figures_of, figures_at}
 
 -- the n bytes from a place
@@ -36,21 +34,9 @@ part n s at = take n (drop at s)
 length_part : (n : ℕ) (s : List ℕ) (at : ℕ) → at + n ≤ length s → length (part n s at) ≡ n
 length_part n s at h = length-take-le n (drop at s) (rw length-drop (omega arith))
 
--- ---- what a field's call tells
-module _ (s : List ℕ) (at : ℕ) where
-  pub price-bad : at + 5 ≤ length s → price_at s at ≡ PriceField.Bad → good_field 9 (part 5 s at) ≡ false
-  price-bad h e = go (good_field 9 (part 5 s at)) (sym (inside 5 at s (price_of (part 5 s at)) PriceField.Bad h) ∙ e)
-    where
-      go : (t : Bool) → cond t (PriceField.Is (as_price (value (part 5 s at)))) PriceField.Bad ≡ PriceField.Bad → t ≡ false
-      go true k = cc
-      go false k = refl
-
-  pub price-is : (p : Price) → at + 5 ≤ length s → price_at s at ≡ PriceField.Is p → (good_field 9 (part 5 s at) ≡ true) × (as_price (value (part 5 s at)) ≡ p)
-  price-is p h e = go (good_field 9 (part 5 s at)) (sym (inside 5 at s (price_of (part 5 s at)) PriceField.Bad h) ∙ e)
-    where
-      go : (t : Bool) → cond t (PriceField.Is (as_price (value (part 5 s at)))) PriceField.Bad ≡ PriceField.Is p → (t ≡ true) × (as_price (value (part 5 s at)) ≡ p)
-      go true k = (refl, cc)
-      go false k = (cc, cc)
+-- ---- what a field's call gives
+price_in : (s : List ℕ) (at : ℕ) → at + 5 ≤ length s → price_at s at ≡ cond (good_field 9 (part 5 s at)) (Some (as_price (value (part 5 s at)))) None
+price_in s at h = inside 5 at s (price_of (part 5 s at)) None h
 
 -- a price and a quantity behind it, at its own place
 module _ (s : List ℕ) (at q : ℕ) (e : at + 5 ≡ q) (h : at + 9 ≤ length s) where
@@ -63,27 +49,13 @@ module _ (s : List ℕ) (at q : ℕ) (e : at + 5 ≡ q) (h : at + 9 ≤ length s
   pair_parts : part 9 s at ≡ part 5 s at ++ part 4 s q
   pair_parts = take-add 5 4 (drop at s) ∙ ap (λ (l : List ℕ). part 5 s at ++ take 4 l) (drop-drop 5 at s ∙ ap (λ (k : ℕ). drop k s) e)
 
-  pair-in : pair_at s at ≡ cond pair-good (PairField.Is pair-yes) PairField.Bad
+  pair-in : pair_at s at ≡ cond pair-good (Some pair-yes) None
   pair-in =
       let l : length (part 5 s at) ≡ 5 = length_part 5 s at (omega arith) in
-      inside 9 at s (pair_of (part 9 s at)) PairField.Bad h
+      inside 9 at s (pair_of (part 9 s at)) None h
       ∙ ap pair_of pair_parts
-      ∙ ap₂ (λ (x y : List ℕ). cond (good_field 9 x && good_field 8 y) (PairField.Is (record { price = as_price (value x); quantity = as_quantity (value y) })) PairField.Bad)
+      ∙ ap₂ (λ (x y : List ℕ). cond (good_field 9 x && good_field 8 y) (Some (record { price = as_price (value x); quantity = as_quantity (value y) })) None)
       (take_at (part 5 s at) (part 4 s q) 5 l) (drop_at (part 5 s at) (part 4 s q) 5 l)
-
-  pub pair-bad : pair_at s at ≡ PairField.Bad → pair-good ≡ false
-  pair-bad k = go pair-good (sym pair-in ∙ k)
-    where
-      go : (t : Bool) → cond t (PairField.Is pair-yes) PairField.Bad ≡ PairField.Bad → t ≡ false
-      go true k = cc
-      go false k = refl
-
-  pub pair_is : (p : Pair) → pair_at s at ≡ PairField.Is p → (pair-good ≡ true) × (pair-yes ≡ p)
-  pair_is p k = go pair-good (sym pair-in ∙ k)
-    where
-      go : (t : Bool) → cond t (PairField.Is pair-yes) PairField.Bad ≡ PairField.Is p → (t ≡ true) × (pair-yes ≡ p)
-      go true k = (refl, cc)
-      go false k = (cc, cc)
 
 value-halves : (bs : List ℕ) → length bs ≡ 6 → value (take 2 bs) * 100000000 + value (drop 2 bs) ≡ value bs
 value-halves bs l =
@@ -162,30 +134,42 @@ module _ (s : List ℕ) (at : ℕ) where
       ∙ rw (at30, at26, at21, at16, at11, at6)
 
 -- ---- the prices and the total of a slot
+-- what stands behind a field that is there
+abbrev pub behind : {X Y : Type 0} → Option X → (X → Option Y) → Option Y
+behind None f = None
+behind (Some x) f = f x
+
+-- field after field, up to the first with a bad digit
+abbrev pub figures_from : Option Price → Option Price → Option Price → Option Pair → Option Figures
+figures_from o h l p = behind o (λ x. behind h (λ y. behind l (λ z. behind p (λ w. Some (record { opening = x; highest = y; lowest = z; pair = w })))))
+
 module _ (s : List ℕ) (at : ℕ) where
-  pub figures-refused : figures_good s at ≡ false → FiguresField.Bad ≡ figures_at s at
-  figures-refused e = sym (ap (λ (t : Bool). cond t (FiguresField.Is (figures_of s at)) FiguresField.Bad) e)
+  pub figures_are : at + 36 ≤ length s → figures_at s at ≡ figures_from (price_at s (at + 6)) (price_at s (at + 11)) (price_at s (at + 16)) (pair_at s (at + 21))
+  figures_are h =
+      rw (price_in s (at + 6) (omega arith), price_in s (at + 11) (omega arith), price_in s (at + 16) (omega arith), pair-in s (at + 21) (at + 26) (omega arith) (omega arith))
+      (go (good_field 9 (part 5 s (at + 6))) (good_field 9 (part 5 s (at + 11))) (good_field 9 (part 5 s (at + 16))) (pair-good s (at + 21) (at + 26) (omega arith) (omega arith)))
+    where
+      go : (a b c d : Bool) → cond (a && (b && (c && d))) (Some (figures_of s at)) None
+          ≡ figures_from (cond a (Some (figures_of s at).opening) None) (cond b (Some (figures_of s at).highest) None) (cond c (Some (figures_of s at).lowest) None) (cond d (Some (figures_of s at).pair) None)
+      go false b c d = refl
+      go true false c d = refl
+      go true true false d = refl
+      go true true true false = refl
+      go true true true true = refl
 
-  pub figures-told : (x : Figures) → figures_good s at ≡ true → x ≡ figures_of s at → FiguresField.Is x ≡ figures_at s at
-  figures-told x e f = ap FiguresField.Is f ∙ sym (ap (λ (t : Bool). cond t (FiguresField.Is (figures_of s at)) FiguresField.Bad) e)
-
-  pub figures-bad : figures_at s at ≡ FiguresField.Bad → figures_good s at ≡ false
+  pub figures-bad : figures_at s at ≡ None → figures_good s at ≡ false
   figures-bad e = go (figures_good s at) e
     where
-      go : (t : Bool) → cond t (FiguresField.Is (figures_of s at)) FiguresField.Bad ≡ FiguresField.Bad → t ≡ false
+      go : (t : Bool) → cond t (Some (figures_of s at)) None ≡ None → t ≡ false
       go true k = cc
       go false k = refl
 
-  pub figures-is : (x : Figures) → figures_at s at ≡ FiguresField.Is x → (figures_good s at ≡ true) × (figures_of s at ≡ x)
+  pub figures-is : (x : Figures) → figures_at s at ≡ Some x → (figures_good s at ≡ true) × (figures_of s at ≡ x)
   figures-is x e = go (figures_good s at) e
     where
-      go : (t : Bool) → cond t (FiguresField.Is (figures_of s at)) FiguresField.Bad ≡ FiguresField.Is x → (t ≡ true) × (figures_of s at ≡ x)
+      go : (t : Bool) → cond t (Some (figures_of s at)) None ≡ Some x → (t ≡ true) × (figures_of s at ≡ x)
       go true k = (refl, cc)
       go false k = (cc, cc)
-
--- ---- a bad field makes a bad slot
-pub slot-bad : (s : List ℕ) (at : ℕ) {P : Type 0} {r : Bool} → r ≡ false → good_cells slot_cells (drop at s) ≡ false → (r ≡ good_cells slot_cells (drop at s)) × (r ≡ true → P)
-slot-bad s at p q = (p ∙ sym q, λ t. absurd (no_false (sym p ∙ t)))
 
 -- ---- good fields make the slot, and its rules are those of its numbers
 module _ (s : List ℕ) (at : ℕ) (l : at + 36 ≤ length s) where

@@ -1,14 +1,12 @@
 -- What the functions of reading hand on to each other.
-use Rattle.std.specs.Prelude.{ℕ, ◌+◌, Bool, cond, ◌&&◌, List, take, drop, leb}
+use Rattle.std.specs.Prelude.{ℕ, ◌+◌, Bool, cond, ◌&&◌, List, take, drop, leb, None, Option, Some}
 use Rattle.digits.specs.Packed.{good_field, value}
 use Rattle.amounts.specs.Amounts.{as_price, as_quantity}
-use Rattle.digits.specs.declared.halves.Place.TheVariants.{None}
 use Rattle.answers.specs.declared.Answer.{Answer}
 use Rattle.stock_prices.specs.declared.Slot.{Slot}
 use Rattle.stock_prices.specs.declared.PricesReading.{PricesReading}
 use Rattle.stock_prices.specs.Prices.{no_prices}
 use Rattle.stock_prices_read.specs.declared.slots.Figures.{Figures}
-use Rattle.stock_prices_read.specs.declared.slots.FiguresField.{FiguresField}
 
 -- a refusal by its number
 abbrev pub refusal : ℕ → ℕ → PricesReading
@@ -38,8 +36,8 @@ figures_of b at = record {
   pair = record { price = as_price (value (take 5 (drop (at + 21) b))); quantity = as_quantity (value (take 4 (drop (at + 26) b))) };
 }
 
-abbrev pub figures_at : List ℕ → ℕ → FiguresField
-figures_at b at = cond (figures_good b at) (FiguresField.Is (figures_of b at)) FiguresField.Bad
+abbrev pub figures_at : List ℕ → ℕ → Option Figures
+figures_at b at = cond (figures_good b at) (Some (figures_of b at)) None
 
 -- the check that fails first behind the digits, or 0: the slots' times, the count and the slots' fields
 abbrev pub row_of : Bool → ℕ → Bool → ℕ

@@ -12,7 +12,6 @@ mod slots;
 
 use crate::cells::cells;
 use answers::{Answer, Frame};
-use digits::halves::Place;
 use stock_frame::places::bad_digit;
 use stock_prices::{FRAME, Prices, PricesReading, Slot, empty};
 
@@ -25,7 +24,7 @@ fn refused(n: u8, length: usize) -> PricesReading
 {
     let prices = empty();
     PricesReading {
-        answer: Answer::Refused(n, length, Place::None),
+        answer: Answer::Refused(n, length, None),
         prices,
     }
 }
@@ -67,10 +66,7 @@ fn accepted(seq: u32, count: u8, slots: [Slot; 10]) -> PricesReading
 fn good_byte(b: u8) -> bool
     ensures { result ≡ good_byte b }
 {
-    if b / 16 > 9 {
-        return false;
-    }
-    b % 16 < 10
+    b / 16 <= 9 && b % 16 <= 9
 }
 
 // The check that fails first behind the digits, or 0: the slots' times, the count and the slots' fields.
@@ -102,10 +98,9 @@ pub fn read(body: &[u8], seq: u32) -> PricesReading
     }
     let count = b / 16 * 10 + b % 16;
     let n = count as usize;
-    let f = slots::slots_in(body, n);
-    if !f.good {
+    let Some(f) = slots::slots_in(body, n) else {
         return no_prices(bad_answer(body));
-    }
+    };
     let check = check_of(f.timed, n, f.ruled);
     if check > 0 {
         return refused(check, FRAME);

@@ -1,10 +1,11 @@
 // Slots read out of a body.
-ghost use Rattle.std.specs.Prelude.{◌+◌, ◌≤◌, ◌≡◌, true, false, ◌&&◌, length, drop};
+ghost use Rattle.std.specs.Prelude.{◌+◌, ◌≤◌, ◌≡◌, true, false, length, drop};
+ghost use Rattle.std.specs.Option.{MatchOption};
 ghost use Rattle.layout.specs.Cells.{good_cells, decode};
 ghost use Rattle.stock_prices.specs.Prices.{slot_cells, slots_cells, slot_of, slots_of, slots_pass, slot_timed, slot_ruled};
 ghost use Rattle.stock_prices_read.specs.Steps.{figures_at};
 
-use amounts::{Pair, PairField, Price, PriceField};
+use amounts::{Pair, Price};
 use codes_times::code_at;
 use stock_prices::rules::{ABOVE_EIGHT, slot_right, time_right};
 use stock_prices::{SLOT, Slot, no_slot};
@@ -19,77 +20,43 @@ pub(crate) struct Figures {
     pub pair: Pair,
 }
 
+// A slot, and whether its time is right.
 #[derive(Clone, Copy)]
-pub(crate) enum FiguresField {
-    Is(Figures),
-    Bad,
+struct SlotField {
+    timed: bool,
+    slot: Slot,
 }
 
-// A slot, and whether its time is right; both say nothing where a digit is bad.
-#[derive(Clone, Copy)]
-pub(crate) struct SlotField {
-    pub good: bool,
-    pub timed: bool,
-    pub slot: Slot,
-}
-
-// All ten, and whether checks 12 and 13 hold of them; where a digit is bad only that is said.
+// All ten, and whether checks 12 and 13 hold of them.
 #[derive(Clone, Copy)]
 pub(crate) struct SlotsField {
-    pub good: bool,
     pub timed: bool,
     pub ruled: bool,
     pub slots: [Slot; 10],
 }
 
 // The prices and the total of a slot.
-fn figures_at(body: &[u8], at: usize) -> FiguresField
+fn figures_at(body: &[u8], at: usize) -> Option<Figures>
     requires { at + 36 ≤ length body.now }
     ensures { result ≡ figures_at body.now at }
 {
-    let PriceField::Is(opening) = Price::from_digits(body, at + 6) else {
-        return FiguresField::Bad;
-    };
-    let PriceField::Is(highest) = Price::from_digits(body, at + 11) else {
-        return FiguresField::Bad;
-    };
-    let PriceField::Is(lowest) = Price::from_digits(body, at + 16) else {
-        return FiguresField::Bad;
-    };
-    let PairField::Is(pair) = Pair::from_digits(body, at + 21) else {
-        return FiguresField::Bad;
-    };
-    let figures = Figures {
-        opening,
-        highest,
-        lowest,
-        pair,
-    };
-    FiguresField::Is(figures)
+    Some(Figures {
+        opening: Price::from_digits(body, at + 6)?,
+        highest: Price::from_digits(body, at + 11)?,
+        lowest: Price::from_digits(body, at + 16)?,
+        pair: Pair::from_digits(body, at + 21)?,
+    })
 }
 
-fn bad_slot() -> SlotField
-    ensures { result.good ≡ false }
-{
-    let slot = no_slot();
-    SlotField {
-        good: false,
-        timed: false,
-        slot,
-    }
-}
-
-// The 36 bytes of a slot, counted or not.
-fn slot_at(body: &[u8], at: usize, counted: bool) -> SlotField
+// The 36 bytes of a slot, counted or not; none where a digit is bad.
+fn slot_at(body: &[u8], at: usize, counted: bool) -> Option<SlotField>
     requires { at + 36 ≤ length body.now }
-    ensures { (result.good ≡ good_cells slot_cells (drop at body.now)) × (result.good ≡ true → (result.slot ≡ slot_of (decode slot_cells (drop at body.now))) × (result.timed ≡ slot_timed counted (decode slot_cells (drop at body.now)))) }
+    ensures { MatchOption result (good_cells slot_cells (drop at body.now) ≡ false) (λ f. (good_cells slot_cells (drop at body.now) ≡ true) × (f.slot ≡ slot_of (decode slot_cells (drop at body.now))) × (f.timed ≡ slot_timed counted (decode slot_cells (drop at body.now)))) }
 {
-    let FiguresField::Is(figures) = figures_at(body, at) else {
-        return bad_slot();
-    };
+    let figures = figures_at(body, at)?;
     let h = six_at(body, at + 30);
     if !h.good {
-        return bad_slot();
+        return None;
     }
     let code = code_at(body, at);
     let opening = figures.opening;
@@ -108,53 +75,27 @@ fn slot_at(body: &[u8], at: usize, counted: bool) -> SlotField
         time,
     };
     let timed = time_right(h.first, h.last, counted);
-    SlotField {
-        good: true,
-        timed,
-        slot,
-    }
+    Some(SlotField { timed, slot })
 }
 
-// Two tests that both hold.
-fn both(a: bool, b: bool) -> bool
-    ensures { result ≡ (a && b) }
-{
-    if a { b } else { false }
-}
-
-// The ten slots after the count, up to the first with a bad digit; the first n are counted.
-pub(crate) fn slots_in(body: &[u8], n: usize) -> SlotsField
+// The ten slots after the count, of which the first n are counted; none where a digit is bad.
+pub(crate) fn slots_in(body: &[u8], n: usize) -> Option<SlotsField>
     requires { length body.now ≡ 361 }
-    ensures { (result.good ≡ good_cells (slots_cells 10) (drop 1 body.now)) × (result.good ≡ true → (result.slots ≡ slots_of 10 (decode (slots_cells 10) (drop 1 body.now))) × (result.timed ≡ slots_pass slot_timed 10 n (decode (slots_cells 10) (drop 1 body.now))) × (result.ruled ≡ slots_pass slot_ruled 10 n (decode (slots_cells 10) (drop 1 body.now)))) }
+    ensures { MatchOption result (good_cells (slots_cells 10) (drop 1 body.now) ≡ false) (λ f. (good_cells (slots_cells 10) (drop 1 body.now) ≡ true) × (f.slots ≡ slots_of 10 (decode (slots_cells 10) (drop 1 body.now))) × (f.timed ≡ slots_pass slot_timed 10 n (decode (slots_cells 10) (drop 1 body.now))) × (f.ruled ≡ slots_pass slot_ruled 10 n (decode (slots_cells 10) (drop 1 body.now)))) }
 {
-    let empty = no_slot();
-    let mut slots = [empty; 10];
+    let mut slots = [no_slot(); 10];
     let mut timed = true;
     let mut ruled = true;
-    let mut i = 0;
-    let mut at = 1;
-    while i < 10 {
+    for i in 0..10 {
         let counted = i < n;
-        let f = slot_at(body, at, counted);
-        if !f.good {
-            return SlotsField {
-                good: false,
-                timed,
-                ruled,
-                slots,
-            };
-        }
-        let s = f.slot;
-        slots[i] = s;
-        timed = both(timed, f.timed);
-        ruled = both(ruled, slot_right(s, counted));
-        at += SLOT;
-        i += 1;
+        let f = slot_at(body, 1 + SLOT * i, counted)?;
+        slots[i] = f.slot;
+        timed &= f.timed;
+        ruled &= slot_right(f.slot, counted);
     }
-    SlotsField {
-        good: true,
+    Some(SlotsField {
         timed,
         ruled,
         slots,
-    }
+    })
 }

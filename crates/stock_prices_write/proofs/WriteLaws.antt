@@ -1,4 +1,5 @@
 -- Writing prices: which messages are legal, and the cells of the body put one behind another.
+use Rattle.std.specs.Prelude.{Err, Result}
 use Prim.Native.Nat.{ℕ, suc, ◌+◌, ◌-◌, ◌^◌, ◌≤◌, ◌<◌}
 use mathlib.Core.Path.{◌≡◌, refl, sym, ap, ap₂, ◌∙◌, subst}
 use mathlib.Core.Bool.{Bool, true, false, ◌&&◌, and-true, and-false}
@@ -18,8 +19,6 @@ use Rattle.layout.specs.Cells.{Cell, raw, digits, size, fits, encode}
 use Rattle.stock_frame.specs.Format.{around, ranged}
 use Rattle.stock_frame.specs.Codec.{legal, frame_of}
 use Rattle.stock_frame.specs.Writing.{write_answer, written_over, close_answer, closed_over}
-use Rattle.answers.specs.declared.Written.{Written}
-use Rattle.answers.specs.declared.Written.TheVariants.{NoRoom}
 use Rattle.layout.proofs.CellLaws.{length-encode}
 use Rattle.layout.proofs.PutLaws.{sets_behind}
 use Rattle.stock_frame.proofs.CodecLaws.{legal-fits}
@@ -31,6 +30,8 @@ use Rattle.layout.proofs.RawLaws.{fits-raws, encode-raws}
 use Rattle.stock_prices.proofs.PriceLaws.{amount_cells, length-slot_values, size-slots_cells, prices-lawful}
 use Rattle.stock_frame.proofs.MessageLaws.{message-short, message-closed}
 use Rattle.stock_prices_write.proofs.PassLaws.{codes_at}
+use Rattle.answers.specs.declared.WriteError.{WriteError}
+use Rattle.answers.specs.declared.WriteError.TheVariants.{NoRoom}
 
 -- ---- a field put, and then the cells behind it
 put-cell : (n v : ℕ) (cs : List Cell) (vs b b' : List ℕ) (k k' : ℕ) → width n ≤ 9 → k + width n ≡ k' → k' ≤ length b → v < 10 ^ n → b' ≡ put_at v (width n) b k
@@ -46,8 +47,27 @@ module _ (s : Slot) (l : length s.code ≡ 6) where
   abbrev amounts : List ℕ
   amounts = s.opening.0 ∷ s.highest.0 ∷ s.lowest.0 ∷ s.last.0 ∷ s.total.0 ∷ s.time ∷ []
 
-  pub slot-fits-is : fits slot_cells (slot_values s) ≡ fits amount_cells amounts
-  slot-fits-is = subst (λ (n : ℕ). fits (replicate n raw ++ amount_cells) (slot_values s) ≡ fits amount_cells amounts) l (fits-raws s.code amount_cells amounts)
+  pub slot_fits_is : fits slot_cells (slot_values s)
+      ≡ (ltb s.opening.0 1000000000 && (ltb s.highest.0 1000000000 && (ltb s.lowest.0 1000000000 && (ltb s.last.0 1000000000 && (ltb s.total.0 100000000 && (ltb s.time 1000000000000 && true))))))
+  slot_fits_is = subst (λ (n : ℕ). fits (replicate n raw ++ amount_cells) (slot_values s) ≡ fits amount_cells amounts) l (fits-raws s.code amount_cells amounts)
+
+  -- the last two of its numbers
+  pub total-small : fits slot_cells (slot_values s) ≡ true → s.total.0 < 10 ^ 8
+  total-small f =
+      let g : fits amount_cells amounts ≡ true = sym slot_fits_is ∙ f in
+      let g₁ = and_right (ltb s.opening.0 (10 ^ 9)) _ g in
+      let g₂ = and_right (ltb s.highest.0 (10 ^ 9)) _ g₁ in
+      let g₃ = and_right (ltb s.lowest.0 (10 ^ 9)) _ g₂ in
+      ltb-true s.total.0 (10 ^ 8) (and_left _ _ (and_right (ltb s.last.0 (10 ^ 9)) _ g₃))
+
+  pub time-small : fits slot_cells (slot_values s) ≡ true → s.time < 10 ^ 12
+  time-small f =
+      let g : fits amount_cells amounts ≡ true = sym slot_fits_is ∙ f in
+      let g₁ = and_right (ltb s.opening.0 (10 ^ 9)) _ g in
+      let g₂ = and_right (ltb s.highest.0 (10 ^ 9)) _ g₁ in
+      let g₃ = and_right (ltb s.lowest.0 (10 ^ 9)) _ g₂ in
+      let g₄ = and_right (ltb s.last.0 (10 ^ 9)) _ g₃ in
+      ltb-true s.time (10 ^ 12) (and_left _ _ (and_right (ltb s.total.0 (10 ^ 8)) _ g₄))
 
   slot-bytes : encode slot_cells (slot_values s) ≡ s.code ++ encode amount_cells amounts
   slot-bytes = subst (λ (n : ℕ). encode (replicate n raw ++ amount_cells) (slot_values s) ≡ s.code ++ encode amount_cells amounts) l (encode-raws s.code amount_cells amounts)
@@ -59,7 +79,7 @@ module _ (s : Slot) (l : length s.code ≡ 6) where
       (e₆ : b₆ ≡ put_at s.time 6 b₅ (at + 30)) where
     pub slot-put : b₆ ≡ sets buf at (encode slot_cells (slot_values s))
     slot-put =
-        let g : fits amount_cells amounts ≡ true = sym slot-fits-is ∙ f in
+        let g : fits amount_cells amounts ≡ true = sym slot_fits_is ∙ f in
         let g₁ = and_right (ltb s.opening.0 (10 ^ 9)) _ g in
         let g₂ = and_right (ltb s.highest.0 (10 ^ 9)) _ g₁ in
         let g₃ = and_right (ltb s.lowest.0 (10 ^ 9)) _ g₂ in
@@ -174,10 +194,10 @@ legal-test true c f t true true r h = ap₂ (λ (x y : Bool). (x && f) && (t && 
 whole : size twelve_cells ≡ 361
 whole = ap (λ (n : ℕ). 1 + n) (size-slots_cells 10)
 
-pub legal-is : (m : Prices) → legal twelve_codec m
+pub legal_is : (m : Prices) → legal twelve_codec m
     ≡ (ltb m.seq 100000000 && ((leb 1 m.count && leb m.count 10)
     && (fits (slots_cells 10) (slots_values m.slots) && (slots_pass slot_timed 10 m.count (slots_values m.slots) && slots_pass slot_ruled 10 m.count (slots_values m.slots)))))
-legal-is m =
+legal_is m =
     ap (λ (n : ℕ). ltb m.seq 100000000 && (ranged twelve n && (true && (fits twelve_cells (prices_values m)
     && (slots_pass slot_timed 10 m.count (slots_values m.slots)
     && (((leb 1 m.count && leb m.count 10) && slots_pass slot_ruled 10 m.count (slots_values m.slots)) && true)))))) whole
@@ -190,12 +210,15 @@ module _ (m : Prices) (s : ShapedPrices m) (l : legal twelve_codec m ≡ true) w
   pub slots-fit : fits (slots_cells 10) (slots_values m.slots) ≡ true
   slots-fit = and_right (ltb m.count 100) _ (legal-fits twelve_codec m l)
 
+  pub count-small : m.count < 100
+  count-small = ltb-true m.count 100 (and_left _ _ (legal-fits twelve_codec m l))
+
   pub prices-short : (buf : List ℕ) → length buf < 374
-      → (NoRoom ≡ write_answer (legal twelve_codec m) (frame_of twelve_codec m) buf) × (buf ≡ written_over (legal twelve_codec m) (frame_of twelve_codec m) buf)
+      → (Err NoRoom ≡ write_answer (legal twelve_codec m) (frame_of twelve_codec m) buf) × (buf ≡ written_over (legal twelve_codec m) (frame_of twelve_codec m) buf)
   prices-short buf h = message-short twelve_codec ShapedPrices prices-lawful m s l buf (omega (arith, whole))
 
   -- the count put, then the slots, and the frame closed
-  pub prices-closed : (buf b₁ b₂ u : List ℕ) (answer : Written) → 374 ≤ length buf
+  pub prices-closed : (buf b₁ b₂ u : List ℕ) (answer : Result ℕ WriteError) → 374 ≤ length buf
       → b₁ ≡ put_at m.count 1 buf 10 → b₂ ≡ sets b₁ 11 (encode (slots_cells 10) (slots_values m.slots))
       → answer ≡ close_answer 12 3 m.seq 374 b₂ → u ≡ closed_over 12 3 m.seq 374 b₂
       → (answer ≡ write_answer (legal twelve_codec m) (frame_of twelve_codec m) buf) × (u ≡ written_over (legal twelve_codec m) (frame_of twelve_codec m) buf)

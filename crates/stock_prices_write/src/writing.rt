@@ -23,12 +23,12 @@ fn put_slot(s: Slot, buf: &mut [u8], at: usize)
 {
     let code = s.code;
     put_code(code, buf, at);
-    write(s.opening.0 as u64, 5, buf, at + 6);
-    write(s.highest.0 as u64, 5, buf, at + 11);
-    write(s.lowest.0 as u64, 5, buf, at + 16);
-    write(s.last.0 as u64, 5, buf, at + 21);
-    write(s.total.0 as u64, 4, buf, at + 26);
-    write(s.time, 6, buf, at + 30);
+    write(s.opening.0 as u64, 5, buf, at + 6).unwrap();
+    write(s.highest.0 as u64, 5, buf, at + 11).unwrap();
+    write(s.lowest.0 as u64, 5, buf, at + 16).unwrap();
+    write(s.last.0 as u64, 5, buf, at + 21).unwrap();
+    write(s.total.0 as u64, 4, buf, at + 26).unwrap();
+    write(s.time, 6, buf, at + 30).unwrap();
 }
 
 // Writes all slots behind the count.
@@ -36,12 +36,7 @@ pub(crate) fn put_slots(slots: [Slot; 10], buf: &mut [u8])
     requires { (371 ≤ length buf.old) × (fits (slots_cells 10) (slots_values slots) ≡ true) }
     ensures { buf.new ≡ sets buf.old 11 (encode (slots_cells 10) (slots_values slots)) }
 {
-    let mut i = 0;
-    let mut at = 11;
-    while i < 10 {
-        let s = slots[i];
-        put_slot(s, buf, at);
-        at += SLOT;
-        i += 1;
+    for i in 0..10 {
+        put_slot(slots[i], buf, 11 + SLOT * i);
     }
 }

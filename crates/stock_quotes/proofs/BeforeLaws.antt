@@ -1,4 +1,5 @@
 -- What bit 0 of the reveal byte did not change: everything, but for the byte beside a level.
+use Rattle.std.specs.Prelude.{None}
 use Prim.Native.Nat.{ℕ, ◌+◌, ◌%◌, ◌^◌}
 use mathlib.Core.Path.{◌≡◌, refl, sym, ap, ◌∙◌}
 use mathlib.Core.Bool.{Bool, true, false, cond, ◌&&◌, and-true, and-false}
@@ -9,7 +10,6 @@ use borrow.Author.Tests.{eq-eqb}
 use Rattle.answers.specs.Answers.{named}
 use Rattle.answers.specs.declared.Answer.{Answer}
 use Rattle.answers.specs.declared.Answer.TheVariants.{Refused}
-use Rattle.digits.specs.declared.halves.Place.TheVariants.{None}
 use Rattle.stock_frame.specs.Format.{around, ranged, values_of, body_checks, body_place, body_answer}
 use Rattle.stock_frame.specs.Codec.{legal, frame_of}
 use Rattle.layout.specs.Cells.{size, fits}

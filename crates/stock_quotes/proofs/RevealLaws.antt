@@ -4,7 +4,7 @@ use mathlib.Core.Path.{◌≡◌, refl, sym, ap, ◌∙◌}
 use mathlib.Core.Bool.{Bool, true, false, cond, ◌&&◌}
 use native.Mathlib.Omega.{arith}
 use lib.Dec.{eqb, leb}
-use borrow.Author.Tests.{le-leb, lt-leb, leb-true, eqb-true, eqb-false, eq-eqb, ne_eqb}
+use borrow.Author.Tests.{leb-true, eqb-true, eqb-false, eq-eqb, ne_eqb}
 use Rattle.digits.proofs.Bools.{and_left, and_right}
 use Rattle.stock_quotes.specs.declared.Levels.{Levels}
 use Rattle.stock_quotes.specs.declared.Levels.TheVariants.{Shown, NotShown}
@@ -43,20 +43,6 @@ module _ (r : Reveal) (right : levels_right r ≡ true) where
 
   pub no-asks : r.levels ≡ NotShown → r.asks ≡ 0
   no-asks e = omega (arith, none-counted e)
-
--- the rule as the code tests it
-module _ (r : Reveal) where
-  pub bids-over : side_room < r.bids → false ≡ levels_right r
-  unfolding levels_right
-  bids-over h = rw (lt-leb r.bids side_room h)
-
-  pub asks-over : r.bids ≤ side_room → side_room < r.asks → false ≡ levels_right r
-  unfolding levels_right
-  asks-over h k = rw (le-leb r.bids side_room h, lt-leb r.asks side_room k)
-
-  pub count_left : r.bids ≤ side_room → r.asks ≤ side_room → (l : Levels) → r.levels ≡ l → count_right l (r.bids + r.asks) ≡ levels_right r
-  unfolding levels_right
-  count_left h k l e = rw (le-leb r.bids side_room h, le-leb r.asks side_room k, e)
 
 -- a word on the levels and its bit tell each other
 pub bit-of : (byte : ℕ) → levels_bit (levels_of byte) ≡ byte % 2

@@ -1,6 +1,5 @@
 -- Format six while bit 0 of its reveal byte was handed on unread: what check 10 was, and what a writing asked. The rules of today are held against it.
-use Rattle.std.specs.Prelude.{ℕ, ◌+◌, ◌%◌, ◌≡◌, Bool, true, false, ◌&&◌, List, [], ◌∷◌, length, get_or, drop, leb}
-use Rattle.digits.specs.declared.halves.Place.TheVariants.{None}
+use Rattle.std.specs.Prelude.{ℕ, ◌+◌, ◌%◌, ◌≡◌, Bool, true, false, ◌&&◌, List, [], ◌∷◌, length, get_or, drop, leb, None}
 use Rattle.answers.specs.declared.Answer.TheVariants.{Refused}
 use Rattle.stock_frame.specs.Format.{Format, around, ranged, body_answer}
 use Rattle.stock_frame.specs.Codec.{Codec, legal, frame_of}

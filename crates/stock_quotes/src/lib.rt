@@ -35,6 +35,7 @@ pub struct Quote {
 }
 
 // What reading a body finds; the quote is the empty one where the answer is a refusal.
+// It is no `Result`: beside a frame of another kind, which is accepted, stands the empty one too.
 #[derive(Clone, Copy)]
 pub struct QuoteReading {
     pub answer: Answer,
@@ -51,14 +52,15 @@ pub struct Reveal {
 }
 
 impl Levels {
-    // What bit 0 of a reveal byte says.
+    // What bit 0 of a reveal byte says. This and the next are no `From`: the promises name them.
     pub fn from_byte(byte: u8) -> Levels
         ensures { result ≡ levels_of byte }
     {
         if byte % 2 == 0 {
-            return Levels::Shown;
+            Levels::Shown
+        } else {
+            Levels::NotShown
         }
-        Levels::NotShown
     }
 
     // The bit that says so.
@@ -89,17 +91,14 @@ impl Reveal {
     }
 
     // Check 10: no side has more levels than it may, nor any where levels are not shown.
+    #[tactic(auto, unfolding(crate::specs::Reveal::levels_right))]
     pub fn levels_right(self) -> bool
         ensures { result ≡ levels_right self }
     {
-        if Reveal::MOST_LEVELS < self.bids {
+        if self.bids > Reveal::MOST_LEVELS || self.asks > Reveal::MOST_LEVELS {
             return false;
         }
-        if Reveal::MOST_LEVELS < self.asks {
-            return false;
-        }
-        let levels = self.levels;
-        match levels {
+        match self.levels {
             Levels::Shown => true,
             Levels::NotShown => self.bids + self.asks == 0,
         }
@@ -167,8 +166,5 @@ pub fn timed(code: &[u8], first: u32, last: u32) -> bool
         return first as u64 * BEHIND + last as u64 == MOST_TIME;
     }
     let second = first as u64 * 100 + (last / FRACTIONS) as u64;
-    if MOST_SECOND < second {
-        return false;
-    }
-    codes_times::time_of_day(second as u32)
+    second <= MOST_SECOND && codes_times::time_of_day(second as u32)
 }

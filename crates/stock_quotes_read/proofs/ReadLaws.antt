@@ -1,4 +1,5 @@
 -- A quote's body read by its parts: what stands at each place, and what the packed fields hold.
+use Rattle.std.specs.Prelude.{None, Some}
 use Prim.Native.Nat.{ℕ, ◌+◌, ◌*◌, ◌^◌, ◌≤◌, ◌<◌}
 use mathlib.Core.Path.{◌≡◌, refl, sym, ap, ap₂, ◌∙◌}
 use mathlib.Core.Bool.{Bool, true, false, cond, ◌&&◌, and_assoc, and-true, and-false}
@@ -12,9 +13,7 @@ use Rattle.words.specs.Blocks.{block_at, block_of, no_block}
 use Rattle.amounts.specs.Amounts.{as_quantity, quantity_at, quantity_of}
 use Rattle.amounts.specs.declared.Pair.{Pair}
 use Rattle.amounts.specs.declared.Quantity.{Quantity}
-use Rattle.amounts.specs.declared.QuantityField.{QuantityField}
 use Rattle.words.specs.declared.blocks.Block.{Block}
-use Rattle.digits.proofs.Bools.{no_false}
 use Rattle.digits.proofs.PackedLaws.{value-parts}
 use Rattle.digits.proofs.Places.{inside}
 use Rattle.digits.proofs.Values.{even-field}
@@ -23,7 +22,6 @@ use Rattle.layout.specs.Checks.{first_fail}
 use Rattle.answers.specs.Answers.{named}
 use Rattle.stock_frame.specs.Format.{values_of, body_checks, body_place, body_answer, around}
 use Rattle.answers.specs.declared.Frame.{Frame}
-use Rattle.digits.proofs.TestLaws.{holds}
 use Rattle.stock_quotes.specs.declared.QuoteReading.{QuoteReading}
 use Rattle.stock_quotes.specs.declared.Reveal.{Reveal}
 use Rattle.stock_quotes.specs.Reveal.{revealed, levels_right, pair_count}
@@ -119,21 +117,21 @@ module _ (b : List ℕ) (long : 19 ≤ length b) where
   total-place : quantity_at (take 4 (drop 15 b)) 0 ≡ quantity_of (take 4 (drop 15 b))
   total-place =
       let long : length (take 4 (drop 15 b)) ≡ 4 = length-take-le 4 (drop 15 b) (rw length-drop (omega arith)) in
-      inside 4 0 (take 4 (drop 15 b)) (quantity_of (take 4 (take 4 (drop 15 b)))) QuantityField.Bad (omega arith)
+      inside 4 0 (take 4 (drop 15 b)) (quantity_of (take 4 (take 4 (drop 15 b)))) None (omega arith)
       ∙ ap quantity_of (take-take 4 4 (drop 15 b) (omega arith))
 
-  total-good : (q : Quantity) → quantity_at (take 4 (drop 15 b)) 0 ≡ QuantityField.Is q → (good_field 8 (take 4 (drop 15 b)) ≡ true) × (q ≡ as_quantity (value (take 4 (drop 15 b))))
+  total-good : (q : Quantity) → quantity_at (take 4 (drop 15 b)) 0 ≡ Some q → (good_field 8 (take 4 (drop 15 b)) ≡ true) × (q ≡ as_quantity (value (take 4 (drop 15 b))))
   total-good q e = go (good_field 8 (take 4 (drop 15 b))) (sym total-place ∙ e)
     where
-      go : (t : Bool) → cond t (QuantityField.Is (as_quantity (value (take 4 (drop 15 b))))) QuantityField.Bad ≡ QuantityField.Is q
+      go : (t : Bool) → cond t (Some (as_quantity (value (take 4 (drop 15 b))))) None ≡ Some q
           → (t ≡ true) × (q ≡ as_quantity (value (take 4 (drop 15 b))))
       go true p = (refl, cc)
       go false p = (cc, cc)
 
-  total-bad : quantity_at (take 4 (drop 15 b)) 0 ≡ QuantityField.Bad → good_field 8 (take 4 (drop 15 b)) ≡ false
+  total-bad : quantity_at (take 4 (drop 15 b)) 0 ≡ None → good_field 8 (take 4 (drop 15 b)) ≡ false
   total-bad e = go (good_field 8 (take 4 (drop 15 b))) (sym total-place ∙ e)
     where
-      go : (t : Bool) → cond t (QuantityField.Is (as_quantity (value (take 4 (drop 15 b))))) QuantityField.Bad ≡ QuantityField.Bad → t ≡ false
+      go : (t : Bool) → cond t (Some (as_quantity (value (take 4 (drop 15 b))))) None ≡ None → t ≡ false
       go true p = cc
       go false p = refl
 
@@ -145,7 +143,7 @@ module _ (b : List ℕ) (long : 19 ≤ length b) where
       ∙ ap (λ (n : ℕ). value (take 2 w) * 100 ^ n + value (drop 2 w)) (sym four) ∙ sym (value-parts 2 w)
 
   -- what the two fields hold where the total's digits are good, and where not
-  pub fixed-read : {h : Block} (q : Quantity) → h ≡ block_at 6 2 (take 6 (drop 6 b)) 0 → quantity_at (take 4 (drop 15 b)) 0 ≡ QuantityField.Is q
+  pub fixed-read : {h : Block} (q : Quantity) → h ≡ block_at 6 2 (take 6 (drop 6 b)) 0 → quantity_at (take 4 (drop 15 b)) 0 ≡ Some q
       → (h.good ≡ fixed_good b) × (h.good ≡ true → FixedOf b h.first h.last q)
   fixed-read {h} q e f =
       let t = total-good q f in (
@@ -153,9 +151,8 @@ module _ (b : List ℕ) (long : 19 ≤ length b) where
         λ g. record { time-is = time-said e; total-is = t.1 },
       )
 
-  pub fixed-bad : {X : Type 0} → quantity_at (take 4 (drop 15 b)) 0 ≡ QuantityField.Bad → (false ≡ fixed_good b) × (false ≡ true → X)
-  fixed-bad f =
-      (sym (and-false (good (take 6 (drop 6 b)))) ∙ ap (λ (x : Bool). good (take 6 (drop 6 b)) && x) (sym (total-bad f)), λ z. absurd (no_false z))
+  pub fixed-bad : quantity_at (take 4 (drop 15 b)) 0 ≡ None → fixed_good b ≡ false
+  fixed-bad f = ap (λ (x : Bool). good (take 6 (drop 6 b)) && x) (total-bad f) ∙ and-false (good (take 6 (drop 6 b)))
 
 module _ (b : List ℕ) (r : Reveal) (d : Dictated b r) where
   -- ---- the digits of each part
@@ -171,7 +168,7 @@ module _ (b : List ℕ) (r : Reveal) (d : Dictated b r) where
   abbrev good_asks : Bool
   good_asks = good_cells (pair_cells r.asks) (drop (19 + 9 * r.trades + 9 * r.bids) b)
 
-  pub good-sides : good_trades && (good_bids && good_asks) ≡ good_pairs
+  good-sides : good_trades && (good_bids && good_asks) ≡ good_pairs
   good-sides =
       let bids-at : drop (9 * r.trades) (drop 19 b) ≡ drop (19 + 9 * r.trades) b = drop-drop (9 * r.trades) 19 b in
       let asks_at : drop (9 * r.bids) (drop (9 * r.trades) (drop 19 b)) ≡ drop (19 + 9 * r.trades + 9 * r.bids) b =
@@ -180,6 +177,10 @@ module _ (b : List ℕ) (r : Reveal) (d : Dictated b r) where
       ∙ ap (λ (t : Bool). good_trades && t)
       (good-append r.bids r.asks (drop (9 * r.trades) (drop 19 b))
       ∙ ap₂ (λ (x y : List ℕ). good_cells (pair_cells r.bids) x && good_cells (pair_cells r.asks) y) bids-at asks_at))
+
+  -- by those of the three sides
+  pub sides-say : (x y z : Bool) → good_trades ≡ x → good_bids ≡ y → good_asks ≡ z → good_pairs ≡ x && (y && z)
+  sides-say x y z t u v = sym good-sides ∙ ap₂ ◌&&◌ t (ap₂ ◌&&◌ u v)
 
   good-parts : fixed_good b && good_pairs ≡ good_cells (six_cells (pair_count r)) b
   good-parts =
@@ -199,15 +200,12 @@ module _ (b : List ℕ) (r : Reveal) (d : Dictated b r) where
   first-padded [] = refl
   first-padded (p ∷ ps) = refl
 
-  pub sides-told : (gt gb ga : Bool) (ts bs cs : List Pair) → gt && (gb && ga) ≡ true
-      → (gt ≡ true → ts ≡ padded (pairs_in r.trades (drop 19 b)))
-      → (gb ≡ true → bs ≡ padded (pairs_in r.bids (drop (19 + 9 * r.trades) b)))
-      → (ga ≡ true → cs ≡ padded (pairs_in r.asks (drop (19 + 9 * r.trades + 9 * r.bids) b)))
+  pub sides-told : (ts bs cs : List Pair) → ts ≡ padded (pairs_in r.trades (drop 19 b))
+      → bs ≡ padded (pairs_in r.bids (drop (19 + 9 * r.trades) b))
+      → cs ≡ padded (pairs_in r.asks (drop (19 + 9 * r.trades + 9 * r.bids) b))
       → SidesOf b r (get_or ts 0 no_pair) bs cs
-  sides-told gt gb ga ts bs cs h t u v =
-      let each = holds (gt ∷ gb ∷ ga ∷ []) h in
-      record {
-        trade-is = ap (λ (x : List Pair). get_or x 0 no_pair) (t (each 0)) ∙ first-padded (pairs_in r.trades (drop 19 b));
-        bids-are = u (each 1);
-        asks-are = v (each 2);
-      }
+  sides-told ts bs cs t u v = record {
+    trade-is = ap (λ (x : List Pair). get_or x 0 no_pair) t ∙ first-padded (pairs_in r.trades (drop 19 b));
+    bids-are = u;
+    asks-are = v;
+  }

@@ -1,4 +1,5 @@
 -- A side read pair by pair: what is left to read after i pairs, and what one pair more does.
+use Rattle.std.specs.Prelude.{None, Some}
 use Prim.Native.Nat.{ℕ, zero, suc, ◌+◌, ◌-◌, ◌*◌, ◌≤◌, ◌<◌}
 use mathlib.Core.Path.{◌≡◌, refl, sym, ap, ap₂, ◌∙◌}
 use mathlib.Core.Bool.{Bool, true, false, cond, ◌&&◌, and_assoc}
@@ -10,7 +11,6 @@ use lib.Seq.{drop-drop, take-take, take-add, drop_at, length-take-le, take-suc-s
 use Rattle.digits.specs.Packed.{good_field, value}
 use Rattle.amounts.specs.Amounts.{pair_of, pair_at}
 use Rattle.amounts.specs.declared.Pair.{Pair}
-use Rattle.amounts.specs.declared.PairField.{PairField}
 use Rattle.digits.proofs.Places.{inside}
 use Rattle.layout.specs.Cells.{good_cells}
 use Rattle.stock_quotes.specs.Reveal.{side_room}
@@ -36,7 +36,7 @@ module _ (b : List ℕ) (at : ℕ) (h : at + 9 ≤ length b) where
   part-is : take 9 (drop at b) ≡ pair_part
   part-is = let e : 9 ≡ at + 9 - at = omega arith in ap (λ (n : ℕ). take n (drop at b)) e
 
-  at_place : pair_at pair_part 0 ≡ cond (good_pair (drop at b)) (PairField.Is (pair_in (drop at b))) PairField.Bad
+  at_place : pair_at pair_part 0 ≡ cond (good_pair (drop at b)) (Some (pair_in (drop at b))) None
   at_place =
       let x = drop at b in
       let long : 9 ≤ length x = rw length-drop (omega arith) in
@@ -44,20 +44,20 @@ module _ (b : List ℕ) (at : ℕ) (h : at + 9 ≤ length b) where
       let five : take 5 (take 9 (take 9 x)) ≡ take 5 x = take-take 5 9 (take 9 x) (omega arith) ∙ take-take 5 9 x (omega arith) in
       let four : drop 5 (take 9 (take 9 x)) ≡ take 4 (drop 5 x) = ap (drop 5) (take-take 9 9 x (omega arith)) ∙ drop-take 5 4 x (omega arith) in
       ap (λ (l : List ℕ). pair_at l 0) (sym part-is)
-      ∙ inside 9 0 (take 9 x) (pair_of (take 9 (take 9 x))) PairField.Bad (omega arith)
-      ∙ ap₂ (λ (p q : List ℕ). cond (good_field 9 p && good_field 8 q) (PairField.Is (pair (value p) (value q))) PairField.Bad) five four
+      ∙ inside 9 0 (take 9 x) (pair_of (take 9 (take 9 x))) None (omega arith)
+      ∙ ap₂ (λ (p q : List ℕ). cond (good_field 9 p && good_field 8 q) (Some (pair (value p) (value q))) None) five four
 
-  pub pair-good : (p : Pair) → pair_at pair_part 0 ≡ PairField.Is p → (good_pair (drop at b) ≡ true) × (p ≡ pair_in (drop at b))
+  pub pair-good : (p : Pair) → pair_at pair_part 0 ≡ Some p → (good_pair (drop at b) ≡ true) × (p ≡ pair_in (drop at b))
   pair-good p e = go (good_pair (drop at b)) (sym at_place ∙ e)
     where
-      go : (t : Bool) → cond t (PairField.Is (pair_in (drop at b))) PairField.Bad ≡ PairField.Is p → (t ≡ true) × (p ≡ pair_in (drop at b))
+      go : (t : Bool) → cond t (Some (pair_in (drop at b))) None ≡ Some p → (t ≡ true) × (p ≡ pair_in (drop at b))
       go true q = (refl, cc)
       go false q = (cc, cc)
 
-  pub pair-bad : pair_at pair_part 0 ≡ PairField.Bad → good_pair (drop at b) ≡ false
+  pub pair-bad : pair_at pair_part 0 ≡ None → good_pair (drop at b) ≡ false
   pair-bad e = go (good_pair (drop at b)) (sym at_place ∙ e)
     where
-      go : (t : Bool) → cond t (PairField.Is (pair_in (drop at b))) PairField.Bad ≡ PairField.Bad → t ≡ false
+      go : (t : Bool) → cond t (Some (pair_in (drop at b))) None ≡ None → t ≡ false
       go true q = cc
       go false q = refl
 

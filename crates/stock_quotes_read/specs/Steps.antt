@@ -1,10 +1,9 @@
 -- What the steps of reading a quote hand on to each other.
-use Rattle.std.specs.Prelude.{ℕ, ◌+◌, ◌*◌, ◌≤◌, ◌≡◌, Bool, true, ◌&&◌, List, length, get_or, take, drop}
+use Rattle.std.specs.Prelude.{ℕ, ◌+◌, ◌*◌, ◌≤◌, ◌≡◌, Bool, true, ◌&&◌, List, length, get_or, take, drop, None}
 use Rattle.digits.specs.Packed.{good, good_field, value}
 use Rattle.amounts.specs.Amounts.{as_quantity}
 use Rattle.amounts.specs.declared.Pair.{Pair}
 use Rattle.amounts.specs.declared.Quantity.{Quantity}
-use Rattle.digits.specs.declared.halves.Place.TheVariants.{None}
 use Rattle.answers.specs.declared.Answer.{Answer}
 use Rattle.answers.specs.declared.Answer.TheVariants.{Accepted, Refused}
 use Rattle.stock_quotes.specs.declared.QuoteReading.{QuoteReading}

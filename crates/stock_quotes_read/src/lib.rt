@@ -1,7 +1,8 @@
 // Reading the body of a format six frame.
 #![tactic(auto)]
 
-ghost use Rattle.std.specs.Prelude.{◌≡◌, true, ◌+◌, ◌*◌, ◌≤◌, length, drop};
+ghost use Rattle.std.specs.Prelude.{◌≡◌, true, false, ◌+◌, ◌*◌, ◌≤◌, length, drop};
+ghost use Rattle.std.specs.Option.{MatchOption};
 ghost use Rattle.layout.specs.Cells.{good_cells};
 ghost use Rattle.stock_frame.specs.Format.{digit_answer};
 ghost use Rattle.stock_quotes.specs.Reveal.{side_room, pair_count};
@@ -11,32 +12,22 @@ ghost use Rattle.stock_quotes_read.specs.Steps.{most_pairs, refused_reading, wit
 mod cells;
 
 use crate::cells::cells;
-use amounts::{Pair, PairField, Quantity, QuantityField};
+use amounts::{Pair, Quantity};
 use answers::{Answer, Frame};
-use digits::halves::Place;
 use stock_frame::places::bad_digit;
 use stock_quotes::{Levels, Quote, QuoteReading, Reveal, no_pair};
-
-// A side's pairs, best first, and zeros behind them.
-#[derive(Clone, Copy)]
-struct Side {
-    good: bool,
-    pairs: [Pair; 5],
-}
 
 // The pairs of a body by their parts.
 #[derive(Clone, Copy)]
 struct Sides {
-    good: bool,
     trade: Pair,
     bids: [Pair; 5],
     asks: [Pair; 5],
 }
 
-// The packed fields before a body's pairs: whether their digits are good, and what they hold.
+// What the packed fields before a body's pairs hold.
 #[derive(Clone, Copy)]
 struct Fixed {
-    good: bool,
     // HHMM and SSffffff
     first: u32,
     last: u32,
@@ -49,7 +40,7 @@ fn refused(number: u8, n: usize) -> QuoteReading
 {
     let quote = stock_quotes::empty();
     QuoteReading {
-        answer: Answer::Refused(number, n, Place::None),
+        answer: Answer::Refused(number, n, None),
         quote,
     }
 }
@@ -71,76 +62,48 @@ fn no_quote(answer: Answer) -> QuoteReading
     QuoteReading { answer, quote }
 }
 
-// The pairs of one side, from a place on.
-fn side_at(body: &[u8], at: usize, count: usize) -> Side
+// The pairs of one side, from a place on: best first, and zeros behind them; none where a digit is bad.
+fn side_at(body: &[u8], at: usize, count: usize) -> Option<[Pair; 5]>
     requires { (count ≤ side_room) × (at + 9 * count ≤ length body.now) }
-    ensures { (result.good ≡ good_cells (pair_cells count) (drop at body.now)) × (result.good ≡ true → result.pairs ≡ padded (pairs_in count (drop at body.now))) }
+    ensures { MatchOption result (good_cells (pair_cells count) (drop at body.now) ≡ false) (λ pairs. (good_cells (pair_cells count) (drop at body.now) ≡ true) × (pairs ≡ padded (pairs_in count (drop at body.now)))) }
 {
     let mut pairs = [no_pair(); 5];
-    let mut i = 0;
-    while i < count {
+    for i in 0..count {
         let a = at + 9 * i;
-        let e = a + 9;
-        match Pair::from_digits(&body[a..e], 0) {
-            PairField::Is(p) => {
-                pairs[i] = p;
-            }
-            PairField::Bad => {
-                return Side {
-                    good: false,
-                    pairs: pairs,
-                };
-            }
-        }
-        i += 1;
+        pairs[i] = Pair::from_digits(&body[a..a + 9], 0)?;
     }
-    Side {
-        good: true,
-        pairs: pairs,
-    }
+    Some(pairs)
 }
 
 // The trade, the bids and the asks, one behind another.
-fn sides_at(body: &[u8], shown: Reveal) -> Sides
+fn sides_at(body: &[u8], shown: Reveal) -> Option<Sides>
     requires { Dictated body.now shown }
-    ensures { (result.good ≡ good_cells (pair_cells (pair_count shown)) (drop 19 body.now)) × (result.good ≡ true → SidesOf body.now shown result.trade result.bids result.asks) }
+    ensures { MatchOption result (good_cells (pair_cells (pair_count shown)) (drop 19 body.now) ≡ false) (λ sides. (good_cells (pair_cells (pair_count shown)) (drop 19 body.now) ≡ true) × SidesOf body.now shown sides.trade sides.bids sides.asks) }
 {
     let nt = shown.trades;
     let nb = shown.bids;
-    let trade = side_at(body, 19, nt);
-    let bids = side_at(body, 19 + 9 * nt, nb);
-    let asks = side_at(body, 19 + 9 * nt + 9 * nb, shown.asks);
-    let traded = trade.pairs[0];
-    let bid_pairs = bids.pairs;
-    let ask_pairs = asks.pairs;
-    Sides {
-        good: trade.good & (bids.good & asks.good),
-        trade: traded,
-        bids: bid_pairs,
-        asks: ask_pairs,
-    }
+    let trades = side_at(body, 19, nt)?;
+    let bids = side_at(body, 19 + 9 * nt, nb)?;
+    let asks = side_at(body, 19 + 9 * nt + 9 * nb, shown.asks)?;
+    Some(Sides {
+        trade: trades[0],
+        bids,
+        asks,
+    })
 }
 
 // The time and the total.
-fn fixed_fields(body: &[u8]) -> Fixed
+fn fixed_fields(body: &[u8]) -> Option<Fixed>
     requires { 19 ≤ length body.now }
-    ensures { (result.good ≡ fixed_good body.now) × (result.good ≡ true → FixedOf body.now result.first result.last result.total) }
+    ensures { MatchOption result (fixed_good body.now ≡ false) (λ fixed. (fixed_good body.now ≡ true) × FixedOf body.now fixed.first fixed.last fixed.total) }
 {
     let time = words::blocks::six_at(&body[6..12], 0);
-    match Quantity::from_digits(&body[15..19], 0) {
-        QuantityField::Is(quantity) => Fixed {
-            good: time.good,
-            first: time.first,
-            last: time.last,
-            total: quantity,
-        },
-        QuantityField::Bad => Fixed {
-            good: false,
-            first: 0,
-            last: 0,
-            total: Quantity(0),
-        },
-    }
+    let total = Quantity::from_digits(&body[15..19], 0)?;
+    time.good.then_some(Fixed {
+        first: time.first,
+        last: time.last,
+        total,
+    })
 }
 
 // The quote of a body that passes every check.
@@ -156,21 +119,21 @@ fn accepted(body: &[u8], seq: u32, p: Fixed, sides: Sides) -> QuoteReading
     QuoteReading {
         answer: Answer::Accepted(Frame {
             format: 6,
-            seq: seq,
+            seq,
             length: body.len() + 13,
         }),
         quote: Quote {
-            seq: seq,
-            code: code,
+            seq,
+            code,
             time: (p.first as u64) * 100000000 + p.last as u64,
             reveal: body[12],
             limit: body[13],
             status: body[14],
-            total: total,
-            trade: trade,
+            total,
+            trade,
             levels: Levels::from_byte(body[12]),
-            bids: bids,
-            asks: asks,
+            bids,
+            asks,
         },
     }
 }
@@ -180,14 +143,12 @@ fn fields(body: &[u8], seq: u32, shown: Reveal) -> QuoteReading
     requires { Dictated body.now shown }
     ensures { result ≡ quote_reading seq body.now }
 {
-    let p = fixed_fields(body);
-    if !p.good {
+    let Some(p) = fixed_fields(body) else {
         return no_quote(bad_answer(body));
-    }
-    let sides = sides_at(body, shown);
-    if !sides.good {
+    };
+    let Some(sides) = sides_at(body, shown) else {
         return no_quote(bad_answer(body));
-    }
+    };
     if !stock_quotes::timed(&body[..6], p.first, p.last) {
         return refused(12, body.len() + 13);
     }

@@ -1,4 +1,5 @@
 -- Writing a quote: the cells of the body put one behind another.
+use Rattle.std.specs.Prelude.{Err, Result}
 use Prim.Native.Nat.{ℕ, zero, suc, ◌+◌, ◌*◌, ◌^◌, ◌≤◌, ◌<◌}
 use mathlib.Core.Path.{◌≡◌, refl, sym, ap, ◌∙◌}
 use mathlib.Core.Bool.{true}
@@ -18,8 +19,6 @@ use Rattle.stock_frame.specs.Format.{around}
 use Rattle.stock_frame.specs.Codec.{legal, frame_of}
 use Rattle.stock_frame.specs.Writing.{write_answer, written_over, close_answer, closed_over}
 use Rattle.layout.specs.Bytes.{bytes_over}
-use Rattle.answers.specs.declared.Written.{Written}
-use Rattle.answers.specs.declared.Written.TheVariants.{NoRoom}
 use Rattle.layout.proofs.PutLaws.{put_next, put-digits, bytes-in}
 use Rattle.stock_frame.proofs.MessageLaws.{message-short, message-closed}
 use Rattle.layout.proofs.RawLaws.{encode-raws}
@@ -34,6 +33,8 @@ use Rattle.stock_quotes.proofs.QuoteLaws.{quotes-lawful}
 use Rattle.stock_quotes_write.specs.Steps.{pair_tests, fixed_bytes, Ready}
 use Rattle.stock_quotes_write.proofs.PartLaws.{encode-more, length_pairs}
 use Rattle.stock_quotes_write.proofs.LegalLaws.{tests, tests-of, each-pair, trade-is, bids-is, asks-is}
+use Rattle.answers.specs.declared.WriteError.{WriteError}
+use Rattle.answers.specs.declared.WriteError.TheVariants.{NoRoom}
 
 -- a trade's one pair is the first of any number of copies
 copies : (n k : ℕ) (p : Pair) → n ≤ 1 → take n (replicate (suc k) p) ≡ take n (p ∷ [])
@@ -77,10 +78,10 @@ module _ (m : Quote) (shaped : ShapedQuote m) where
     -- ---- the whole frame: n is the length that the code finds
     module _ (buf : List ℕ) (n : ℕ) (whole : n ≡ around + body_length m.reveal) where
       pub quote-short : length buf < n
-          → (NoRoom ≡ write_answer (legal six_codec m) (frame_of six_codec m) buf) × (buf ≡ written_over (legal six_codec m) (frame_of six_codec m) buf)
+          → (Err NoRoom ≡ write_answer (legal six_codec m) (frame_of six_codec m) buf) × (buf ≡ written_over (legal six_codec m) (frame_of six_codec m) buf)
       quote-short h = message-short six_codec ShapedQuote quotes-lawful m shaped l buf (omega (arith, whole))
 
-      pub quote-closed : (b₁ b₂ u : List ℕ) (answer : Written) → n ≤ length buf
+      pub quote-closed : (b₁ b₂ u : List ℕ) (answer : Result ℕ WriteError) → n ≤ length buf
           → b₁ ≡ sets buf 10 (fixed_bytes m) → b₂ ≡ sets b₁ 29 (encode (pair_cells (pair_count (revealed m.reveal))) (flat (used_pairs m)))
           → answer ≡ close_answer 6 4 m.seq n b₂ → u ≡ closed_over 6 4 m.seq n b₂
           → (answer ≡ write_answer (legal six_codec m) (frame_of six_codec m) buf) × (u ≡ written_over (legal six_codec m) (frame_of six_codec m) buf)
@@ -89,6 +90,12 @@ module _ (m : Quote) (shaped : ShapedQuote m) where
           (p ∙ ap (λ (k : ℕ). close_answer 6 4 m.seq k b₂) whole) (q ∙ ap (λ (k : ℕ). closed_over 6 4 m.seq k b₂) whole)
 
     -- ---- what stands before the pairs
+    pub time-small : m.time < 10 ^ 12
+    time-small = timed-small m.code m.time (test 1)
+
+    pub total-small : m.total.0 < 10 ^ 8
+    total-small = omega (arith, leb-true m.total.0 99999999 (test 3))
+
     pub fixed-put : (buf b₁ b₂ b₃ b₄ : List ℕ) → 29 ≤ length buf
         → b₁ ≡ bytes_over m.code buf 10 → b₂ ≡ put_at m.time 6 b₁ 16 → b₃ ≡ bytes_over (m.reveal ∷ m.limit ∷ m.status ∷ []) b₂ 22
         → b₄ ≡ put_at m.total.0 4 b₃ 25 → b₄ ≡ sets buf 10 (fixed_bytes m)
@@ -99,7 +106,7 @@ module _ (m : Quote) (shaped : ShapedQuote m) where
         let marks : List ℕ = m.reveal ∷ m.limit ∷ m.status ∷ [] in
         let total = packed 4 m.total.0 in
         let n : length code ≡ 6 = shaped.code-long in
-        let t : m.time < 10 ^ 12 = timed-small m.code m.time (test 1) in
+        let t : m.time < 10 ^ 12 = time-small in
         let p₁ : b₁ ≡ sets buf 10 code = q₁ ∙ sym (bytes-in code buf 10 (omega arith)) in
         let p₂ : b₂ ≡ sets buf 10 (code ++ time) = q₂ ∙ put-digits code buf b₁ 10 16 p₁ (omega arith) 12 m.time (omega arith) (omega arith) t in
         let n₂ : length (code ++ time) ≡ 12 = length-append code time ∙ omega (arith, length-packed 6 m.time) in
@@ -107,7 +114,7 @@ module _ (m : Quote) (shaped : ShapedQuote m) where
         let p₃ : b₃ ≡ sets buf 10 ((code ++ time) ++ marks) =
         q₃ ∙ sym (bytes-in marks b₂ 22 (omega arith)) ∙ put_next (code ++ time) buf b₂ 10 22 p₂ (omega arith) marks in
         let n₃ : length ((code ++ time) ++ marks) ≡ 15 = length-append (code ++ time) marks ∙ omega arith in
-        q₄ ∙ put-digits ((code ++ time) ++ marks) buf b₃ 10 25 p₃ (omega arith) 8 m.total.0 (omega arith) (omega arith) (omega (arith, leb-true m.total.0 99999999 (test 3)))
+        q₄ ∙ put-digits ((code ++ time) ++ marks) buf b₃ 10 25 p₃ (omega arith) 8 m.total.0 (omega arith) (omega arith) total-small
         ∙ ap (sets buf 10) (append_assoc (code ++ time) marks total ∙ append_assoc code time (marks ++ total))
 
     -- ---- what the pairs' step asks; r is what the code finds in the reveal byte

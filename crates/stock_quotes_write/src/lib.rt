@@ -11,7 +11,7 @@ ghost use Rattle.stock_quotes.specs.Quotes.{quote_timed, pair_cells, flat, used_
 ghost use Rattle.stock_quotes_write.specs.Steps.{pair_right, part_right, pairs_right, fixed_bytes, Ready};
 
 use amounts::{Pair, Price, Quantity};
-use answers::Written;
+use answers::WriteError;
 use stock_quotes::{Quote, Reveal};
 
 // The largest numbers that a frame's number and a time can be.
@@ -26,10 +26,8 @@ const AROUND: usize = 13;
 fn time_right(code: &[u8], time: u64) -> bool
     ensures { result ≡ quote_timed code.now time }
 {
-    if MOST_TIME < time {
-        return false;
-    }
-    stock_quotes::timed(code, (time / 100000000) as u32, (time % 100000000) as u32)
+    time <= MOST_TIME
+        && stock_quotes::timed(code, (time / 100000000) as u32, (time % 100000000) as u32)
 }
 
 // A used pair is within its digits, an unused one is zero.
@@ -39,28 +37,20 @@ fn pair_right(p: Pair, used: bool) -> bool
     let price = p.price.0;
     let quantity = p.quantity.0;
     if used {
-        if Price::MOST < price {
-            return false;
-        }
-        return quantity <= Quantity::MOST;
+        return price <= Price::MOST && quantity <= Quantity::MOST;
     }
-    if price != 0 {
-        return false;
-    }
-    quantity == 0
+    price == 0 && quantity == 0
 }
 
 // The pairs of one side, of which the first are used.
 fn side_right(pairs: [Pair; 5], count: usize) -> bool
     ensures { result ≡ part_right count pairs }
 {
-    let mut i = 0;
-    while i < 5 {
+    for i in 0..5 {
         let p = pairs[i];
         if !pair_right(p, i < count) {
             return false;
         }
-        i += 1;
     }
     true
 }
@@ -113,12 +103,10 @@ fn put_pairs(pairs: [Pair; 5], count: usize, buf: &mut [u8], at: usize)
     requires { (count ≤ side_room) × (at + 9 * count ≤ length buf.old) × (fits (pair_cells count) (flat (take count pairs)) ≡ true) }
     ensures { buf.new ≡ sets buf.old at (encode (pair_cells count) (flat (take count pairs))) }
 {
-    let mut i = 0;
-    while i < count {
+    for i in 0..count {
         let p = pairs[i];
-        digits::fields::write(p.price.0 as u64, 5, buf, at + 9 * i);
-        digits::fields::write(p.quantity.0 as u64, 4, buf, at + 9 * i + 5);
-        i += 1;
+        digits::fields::write(p.price.0 as u64, 5, buf, at + 9 * i).unwrap();
+        digits::fields::write(p.quantity.0 as u64, 4, buf, at + 9 * i + 5).unwrap();
     }
 }
 
@@ -130,9 +118,9 @@ fn put_fixed(m: Quote, buf: &mut [u8])
     let code = m.code;
     let marks = [m.reveal, m.limit, m.status];
     layout::put_bytes(&code, buf, 10);
-    digits::fields::write(m.time, 6, buf, 16);
+    digits::fields::write(m.time, 6, buf, 16).unwrap();
     layout::put_bytes(&marks, buf, 22);
-    digits::fields::write(m.total.0 as u64, 4, buf, 25);
+    digits::fields::write(m.total.0 as u64, 4, buf, 25).unwrap();
 }
 
 // Puts the pairs that a message uses at their place: trade, bids, asks.
@@ -151,15 +139,15 @@ fn put_sides(m: Quote, shown: Reveal, buf: &mut [u8])
 }
 
 // Writes a quote as a frame at the start of the buffer.
-pub fn write(m: Quote, buf: &mut [u8]) -> Written
+pub fn write(m: Quote, buf: &mut [u8]) -> Result<usize, WriteError>
     ensures { (result ≡ write_answer (legal six_codec m) (frame_of six_codec m) buf.old) × (buf.new ≡ written_over (legal six_codec m) (frame_of six_codec m) buf.old) }
 {
     if !is_legal(m) {
-        return Written::Illegal;
+        return Err(WriteError::Illegal);
     }
     let n = AROUND + stock_quotes::body_length(m.reveal);
     if buf.len() < n {
-        return Written::NoRoom;
+        return Err(WriteError::NoRoom);
     }
     put_fixed(m, buf);
     put_sides(m, Reveal::from_byte(m.reveal), buf);

@@ -1,4 +1,5 @@
 -- The checks on a header, for the formats of the list: 7, 8, or the body of the format that its six digits name.
+use Rattle.std.specs.Prelude.{None, Option}
 use Prim.Native.Nat.{ℕ, ◌+◌, ◌/◌, ◌%◌, ◌<◌}
 use mathlib.Core.Path.{◌≡◌, refl, sym, ap, ap₂, ◌∙◌}
 use mathlib.Core.Bool.{Bool, true, false, ◌&&◌}
@@ -12,8 +13,6 @@ use Rattle.digits.proofs.TestLaws.{holds}
 use Rattle.layout.specs.Checks.{Check, must, first_fail}
 use Rattle.answers.specs.Answers.{named}
 use Rattle.stock_frame.specs.Outline.{body, business, format, version}
-use Rattle.digits.specs.declared.halves.Place.{Place}
-use Rattle.digits.specs.declared.halves.Place.TheVariants.{None}
 use Rattle.stock_frame.specs.Format.{Format, body_checks, body_place, body_answer, around}
 use Rattle.answers.specs.declared.Frame.{Frame}
 use Rattle.answers.specs.declared.Answer.TheVariants.{Refused}
@@ -103,7 +102,7 @@ module _ (kind seq : ℕ) (b : List ℕ) where
   abbrev checks : List Check
   checks = body_checks (format_of (kind / 100 % 100)) b
 
-  abbrev place : ℕ → Place
+  abbrev place : ℕ → Option ℕ
   place n = body_place (format_of (kind / 100 % 100)) b n
 
   -- they name no format under business 01

@@ -1,11 +1,11 @@
 -- More bytes behind it take no answer and no message back: only "too few bytes yet" may change.
+use Rattle.std.specs.Prelude.{None}
 use Prim.Native.Nat.{ℕ}
 use mathlib.Core.Path.{◌≡◌}
 use mathlib.Core.List.{List, ◌++◌}
 use lib.Dec.{eqb}
 use Rattle.answers.specs.Answers.{answer_number}
 use Rattle.answers.specs.declared.Answer.TheVariants.{NoFrame}
-use Rattle.digits.specs.declared.halves.Place.TheVariants.{None}
 use Rattle.exchange.specs.Reading.{answer_by}
 use Rattle.exchange.proofs.ReadingLaws.{waits-alone}
 use Rattle.exchange.proofs.SoundLaws as common

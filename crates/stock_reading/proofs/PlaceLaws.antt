@@ -1,4 +1,5 @@
 -- A frame at a place on a line: where it stands, and what a reader of one kind of frames goes by.
+use Rattle.std.specs.Prelude.{Err, Ok, Result}
 use Prim.Native.Nat.{ℕ, ◌+◌, ◌-◌, ◌*◌, ◌≤◌}
 use mathlib.Core.Path.{◌≡◌, refl, sym, ap, ◌∙◌, subst}
 use mathlib.Core.Bool.{false, cond}
@@ -13,19 +14,16 @@ use Rattle.stock_frame.specs.Format.{values_of, body_checks, body_answer}
 use Rattle.stock_frame.specs.Codec.{Codec}
 use Rattle.answers.specs.declared.Answer.{Answer}
 use Rattle.stock_frame.specs.declared.head.Head.{Head}
-use Rattle.stock_frame.specs.declared.head.Outline.{Outline}
-use Rattle.stock_frame.specs.declared.head.Outline.TheVariants.{Whole, Not}
 use Rattle.stock_frame.specs.Reads.{Outlined}
 use Rattle.stock_frame.proofs.FormatsLaws.{Listed}
 use Rattle.stock_frame.proofs.OutlineLaws.{length-own, least-length, within-line}
 use Rattle.stock_frame.proofs.PartLaws.{whole-outlined, body-part}
 use Rattle.stock_reading.specs.Reading.{formats, answer_of, message_by}
 use Rattle.stock_reading.specs.declared.reading.Whole.{Whole as Found-Whole}
-use Rattle.stock_reading.specs.declared.reading.Found.{Found}
-use Rattle.stock_reading.specs.declared.reading.Found.TheVariants.{At, None}
 use Rattle.stock_reading.specs.Steps.{kind_of, is_kind, after_outline, WholeAt, kind_says}
 use Rattle.stock_reading.proofs.HeaderLaws.{named-format, kind-hit}
 use Rattle.stock_reading.proofs.ReadingLaws.{business-lt, format-lt, version-lt, answer-outlined, message-not, message-hit, message-miss}
+use Rattle.stock_reading.specs.declared.reading.Whole.{Whole}
 
 -- ---- a frame whose outline is whole at a place on a line
 module _ (line : List ℕ) (at : ℕ) (w : Found-Whole) (s : WholeAt line at w) where
@@ -74,9 +72,9 @@ module _ {M : Type 0} (C : Codec M) (none : M) (listed : Listed C.form formats) 
   pub kind-miss : is_kind (kind_of C.form) (outline_of t) ≡ false → none ≡ message_by C none t
   kind-miss miss = go (outline_of t) refl
     where
-      go : (o : Outline) → outline_of t ≡ o → none ≡ message_by C none t
-      go (Not a) e = message-not t a e C none
-      go (Whole h) e =
+      go : (o : Result Head Answer) → outline_of t ≡ o → none ≡ message_by C none t
+      go (Err a) e = message-not t a e C none
+      go (Ok h) e =
           let other = eqb-false h.kind (kind_of C.form) (sym (ap (is_kind (kind_of C.form)) e) ∙ miss) in
           let o = whole-outlined t h e in
           message-miss C none listed t o.0 (λ p. other (ap (λ (d : Head). d.kind) o.1 ∙ (λ i. (p.0 i * 100 + p.1 i) * 100 + p.2 i)))
@@ -90,21 +88,21 @@ pub record KindFound {M : Type 0} (C : Codec M) (none : M) (line : List ℕ) (at
   pub means : let b = take (w.end - w.start) (drop w.start line) in
       cond (eqb (first_fail (body_checks C.form b)) 0) (C.message w.seq (values_of C.form b)) none ≡ message_by C none (drop at line)
 
-module _ {M : Type 0} (C : Codec M) (none : M) (listed : Listed C.form formats) (line : List ℕ) (at : ℕ) (r : Found) (said : kind_says r line at (kind_of C.form)) where
-  pub kind-found : (w : Found-Whole) → r ≡ At w → KindFound C none line at w
+module _ {M : Type 0} (C : Codec M) (none : M) (listed : Listed C.form formats) (line : List ℕ) (at : ℕ) (r : Result Whole Answer) (said : kind_says r line at (kind_of C.form)) where
+  pub kind-found : (w : Found-Whole) → r ≡ Ok w → KindFound C none line at w
   kind-found w e =
-      let there = subst (λ (x : Found). kind_says x line at (kind_of C.form)) e said in
+      let there = subst (λ (x : Result Whole Answer). kind_says x line at (kind_of C.form)) e said in
       let hit = whole-hit line at w there.0 C none listed there.1 in
       record { in_order = there.0.in_order; in-line = there.0.in-line; answers = hit.0; means = hit.1 }
 
   -- none such: the answer stands, and there is no message
-  pub kind-other : (a : Answer) → r ≡ None a → (a ≡ answer_of (drop at line)) × (none ≡ message_by C none (drop at line))
+  pub kind-other : (a : Answer) → r ≡ Err a → (a ≡ answer_of (drop at line)) × (none ≡ message_by C none (drop at line))
   kind-other a e =
-      let there = subst (λ (x : Found). kind_says x line at (kind_of C.form)) e said in
+      let there = subst (λ (x : Result Whole Answer). kind_says x line at (kind_of C.form)) e said in
       (there.0, kind-miss C none listed (drop at line) there.1)
 
 -- ---- where a whole frame stands
-module _ (line : List ℕ) (at : ℕ) (h : Head) (e : outline_of (drop at line) ≡ Whole h) where
+module _ (line : List ℕ) (at : ℕ) (h : Head) (e : outline_of (drop at line) ≡ Ok h) where
   found-outlined : Outlined (drop at line)
   found-outlined = (whole-outlined (drop at line) h e).0
 

@@ -1,4 +1,5 @@
 -- A reading by its steps: the outline, the header's six digits, and the message of the format that is asked for.
+use Rattle.std.specs.Prelude.{Err}
 use Prim.Native.Nat.{ℕ, ◌+◌, ◌*◌, ◌/◌, ◌%◌, ◌^◌, ◌<◌}
 use mathlib.Core.Path.{◌≡◌, refl, sym, ap, ap₂, ◌∙◌}
 use mathlib.Core.Bool.{Bool, true, false, cond, ◌&&◌, and-true}
@@ -16,7 +17,6 @@ use Rattle.stock_frame.specs.Outline.{header, length_of, own, body, business, fo
 use Rattle.stock_frame.specs.Format.{values_of, body_checks, body_place}
 use Rattle.stock_frame.specs.Codec.{Codec}
 use Rattle.answers.specs.declared.Answer.{Answer}
-use Rattle.stock_frame.specs.declared.head.Outline.TheVariants.{Not}
 use Rattle.stock_frame.specs.Reads.{Outlined}
 use Rattle.stock_frame.proofs.FormatsLaws.{Listed}
 use Rattle.stock_frame.proofs.OutlineLaws.{header-law, length-body}
@@ -72,7 +72,7 @@ module _ (t : List ℕ) (o : Outlined t) where
       ∙ common.answer-outlined stock behind t o
 
 -- ---- no whole outline
-module _ (t : List ℕ) (a : Answer) (e : outline_of t ≡ Not a) where
+module _ (t : List ℕ) (a : Answer) (e : outline_of t ≡ Err a) where
   checks-not : first_fail (checks t) ≡ first_fail (outline_checks t)
   unfolding checks
   checks-not = common.checks-not stock t (not-outlined t a e).0

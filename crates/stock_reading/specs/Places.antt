@@ -1,8 +1,7 @@
 -- Where a reading says that the bad digit is.
-use Rattle.std.specs.Prelude.{ℕ, ◌*◌, ◌≤◌, ◌<◌, ◌≡◌, false, List, drop}
+use Rattle.std.specs.Prelude.{ℕ, ◌*◌, ◌≤◌, ◌<◌, ◌≡◌, false, List, drop, None, Some}
 use Rattle.digits.specs.Packed.{good_field}
 use Rattle.digits.specs.Halves.{is_none, Lowest}
-use Rattle.digits.specs.declared.halves.Place.TheVariants.{None, Half}
 use Rattle.layout.specs.Cells.{Cell}
 use Rattle.layout.specs.Places.{bad_half}
 use Rattle.answers.specs.Answers.{answer_number, answer_place}
@@ -28,4 +27,4 @@ pub record PlaceSays (t : List ℕ) : Type 0 where
   -- beside any other number none
   pub no_other : (answer_number (answer_of t) ≡ 3 → ⊥) → (answer_number (answer_of t) ≡ 6 → ⊥) → (answer_number (answer_of t) ≡ 11 → ⊥) → answer_place (answer_of t) ≡ None
   -- and it lies within a frame
-  pub within : (p : ℕ) → answer_place (answer_of t) ≡ Half p → (2 ≤ p) × (p < 2 * 1024)
+  pub within : (p : ℕ) → answer_place (answer_of t) ≡ Some p → (2 ≤ p) × (p < 2 * 1024)

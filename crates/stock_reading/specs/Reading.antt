@@ -1,7 +1,6 @@
 -- What a reading may say of the bytes from a place: the checks in their order, and the message of an accepted frame.
-use Rattle.std.specs.Prelude.{ℕ, Bool, cond, ◌&&◌, List, [], ◌∷◌, ◌++◌, eqb}
+use Rattle.std.specs.Prelude.{ℕ, Bool, cond, ◌&&◌, List, [], ◌∷◌, ◌++◌, eqb, Option}
 use Rattle.layout.specs.Checks.{Check, must, first_fail}
-use Rattle.digits.specs.declared.halves.Place.{Place}
 use Rattle.answers.specs.Answers.{named}
 use Rattle.exchange.specs.Reading as common
 use Rattle.exchange.specs.Reading.{Exchange, checks_of, frame_at}
@@ -53,7 +52,7 @@ checks t = checks_of stock t
 
 -- where the bad digit is that an answer speaks of, in halves from the frame's first byte: beside 11 in the packed fields of the body,
 -- beside 3 and 6 in the outline; beside no other
-abbrev pub place_of : ℕ → List ℕ → Place
+abbrev pub place_of : ℕ → List ℕ → Option ℕ
 place_of n t = common.place_of stock n t
 
 -- the answer: the first check that fails, with the place of the bad digit that it speaks of; or acceptance

@@ -4,8 +4,6 @@ ghost use Rattle.stock_reading.specs.Reading.{answer_of, notice_at, quote_at, pr
 ghost use Rattle.stock_reading.specs.Steps.{no_kind, refuses_kind, after_outline, found_says, kind_says};
 
 use answers::Answer;
-use digits::halves::Place;
-use stock_frame::head::Outline;
 use stock_frame::outline::outline;
 use stock_halts::HaltReading;
 use stock_halts_read::read as halt_in;
@@ -35,31 +33,19 @@ struct Whole {
     length: usize,
 }
 
-#[derive(Clone, Copy)]
-enum Found {
-    At(Whole),
-    None(Answer),
-}
-
 // The body of the frame at a place, or why there is none.
-fn find(line: &[u8], at: usize) -> Found
+fn find(line: &[u8], at: usize) -> Result<Whole, Answer>
     ensures { found_says result line.now at }
 {
-    let o = outline(line, at);
-    match o {
-        Outline::Not(a) => Found::None(a),
-        Outline::Whole(h) => {
-            let length = h.length;
-            let w = Whole {
-                start: at + 10,
-                end: at + length - 3,
-                kind: h.kind,
-                seq: h.seq,
-                length,
-            };
-            Found::At(w)
-        }
-    }
+    let head = outline(line, at)?;
+    let length = head.length;
+    Ok(Whole {
+        start: at + 10,
+        end: at + length - 3,
+        kind: head.kind,
+        seq: head.seq,
+        length,
+    })
 }
 
 // A header that names no format with its version: 8 where the format is one of the list, else 7.
@@ -69,43 +55,36 @@ fn refused(kind: u32, n: usize) -> Answer
 {
     let format = kind / 100;
     if format == SIX / 100 {
-        return Answer::Refused(8, n, Place::None);
+        return Answer::Refused(8, n, None);
     }
     if format == TWELVE / 100 {
-        return Answer::Refused(8, n, Place::None);
+        return Answer::Refused(8, n, None);
     }
     if format == NINETEEN / 100 {
-        return Answer::Refused(8, n, Place::None);
+        return Answer::Refused(8, n, None);
     }
     if format == FIVE / 100 {
-        return Answer::Refused(8, n, Place::None);
+        return Answer::Refused(8, n, None);
     }
-    Answer::Refused(7, n, Place::None)
+    Answer::Refused(7, n, None)
 }
 
 // What the checks behind the outline answer, of a body and its frame's header.
 fn answer_of(body: &[u8], kind: u32, seq: u32) -> Answer
     ensures { result ≡ after_outline kind seq body.now }
 {
+    // no match: a proof would call its cases by the constants' numbers, and a wrong number would be refused for a name
     if kind == SIX {
-        let r = quote_in(body, seq);
-        let a = r.answer;
-        return a;
+        return quote_in(body, seq).answer;
     }
     if kind == TWELVE {
-        let r = prices_in(body, seq);
-        let a = r.answer;
-        return a;
+        return prices_in(body, seq).answer;
     }
     if kind == NINETEEN {
-        let r = halt_in(body, seq);
-        let a = r.answer;
-        return a;
+        return halt_in(body, seq).answer;
     }
     if kind == FIVE {
-        let r = notice_in(body, seq);
-        let a = r.answer;
-        return a;
+        return notice_in(body, seq).answer;
     }
     refused(kind, 13 + body.len())
 }
@@ -115,8 +94,8 @@ pub fn read(line: &[u8], at: usize) -> Answer
     ensures { result ≡ answer_of (drop at line.now) }
 {
     match find(line, at) {
-        Found::None(answer) => answer,
-        Found::At(w) => {
+        Err(answer) => answer,
+        Ok(w) => {
             let start = w.start;
             let end = w.end;
             answer_of(&line[start..end], w.kind, w.seq)
@@ -125,33 +104,29 @@ pub fn read(line: &[u8], at: usize) -> Answer
 }
 
 // The body of the frame at a place if it is of a kind; of any other frame, and where there is none, the answer.
-fn find_kind(line: &[u8], at: usize, kind: u32) -> Found
+fn find_kind(line: &[u8], at: usize, kind: u32) -> Result<Whole, Answer>
     ensures { kind_says result line.now at kind }
 {
-    match find(line, at) {
-        Found::None(answer) => Found::None(answer),
-        Found::At(w) => {
-            if w.kind == kind {
-                return Found::At(w);
-            }
-            let start = w.start;
-            let end = w.end;
-            let answer = answer_of(&line[start..end], w.kind, w.seq);
-            Found::None(answer)
-        }
+    let w = find(line, at)?;
+    if w.kind == kind {
+        return Ok(w);
     }
+    let start = w.start;
+    let end = w.end;
+    Err(answer_of(&line[start..end], w.kind, w.seq))
 }
 
-// The same, with the notice if it is one.
+// The same, with the notice if it is one. This call and the three behind it hand out four types, each of its own crate: one over a trait would
+// need an impl for each that is as long as the call.
 pub fn read_notice(line: &[u8], at: usize) -> NoticeReading
     ensures { result ≡ notice_at (drop at line.now) }
 {
     match find_kind(line, at, FIVE) {
-        Found::None(answer) => {
-            let notice = stock_notices::empty();
-            NoticeReading { answer, notice }
-        }
-        Found::At(w) => {
+        Err(answer) => NoticeReading {
+            answer,
+            notice: stock_notices::empty(),
+        },
+        Ok(w) => {
             let start = w.start;
             let end = w.end;
             notice_in(&line[start..end], w.seq)
@@ -164,11 +139,11 @@ pub fn read_quote(line: &[u8], at: usize) -> QuoteReading
     ensures { result ≡ quote_at (drop at line.now) }
 {
     match find_kind(line, at, SIX) {
-        Found::None(answer) => {
-            let quote = stock_quotes::empty();
-            QuoteReading { answer, quote }
-        }
-        Found::At(w) => {
+        Err(answer) => QuoteReading {
+            answer,
+            quote: stock_quotes::empty(),
+        },
+        Ok(w) => {
             let start = w.start;
             let end = w.end;
             quote_in(&line[start..end], w.seq)
@@ -181,11 +156,11 @@ pub fn read_prices(line: &[u8], at: usize) -> PricesReading
     ensures { result ≡ prices_at (drop at line.now) }
 {
     match find_kind(line, at, TWELVE) {
-        Found::None(answer) => {
-            let prices = stock_prices::empty();
-            PricesReading { answer, prices }
-        }
-        Found::At(w) => {
+        Err(answer) => PricesReading {
+            answer,
+            prices: stock_prices::empty(),
+        },
+        Ok(w) => {
             let start = w.start;
             let end = w.end;
             prices_in(&line[start..end], w.seq)
@@ -198,11 +173,11 @@ pub fn read_halt(line: &[u8], at: usize) -> HaltReading
     ensures { result ≡ halt_at (drop at line.now) }
 {
     match find_kind(line, at, NINETEEN) {
-        Found::None(answer) => {
-            let halt = stock_halts::empty();
-            HaltReading { answer, halt }
-        }
-        Found::At(w) => {
+        Err(answer) => HaltReading {
+            answer,
+            halt: stock_halts::empty(),
+        },
+        Ok(w) => {
             let start = w.start;
             let end = w.end;
             halt_in(&line[start..end], w.seq)

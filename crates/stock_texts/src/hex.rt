@@ -19,10 +19,8 @@ fn put_byte(out: &mut [u8], at: usize, b: u8) -> usize {
 
 fn put_bytes(out: &mut [u8], at: usize, text: &[u8]) -> usize {
     let mut to = at;
-    let mut i = 0;
-    while i < text.len() {
-        to = put_byte(out, to, text[i]);
-        i += 1;
+    for b in text {
+        to = put_byte(out, to, *b);
     }
     to
 }

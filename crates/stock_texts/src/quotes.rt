@@ -12,30 +12,18 @@ pub fn put_marks(out: &mut [u8], at: usize, limit: u8, status: u8, total: Quanti
 }
 
 fn put_pair(out: &mut [u8], at: usize, p: Pair) -> usize {
-    let price = p.price;
     let at = put_all(out, at, b"{\"price\":");
-    let at = put_price(out, at, price);
+    let at = put_price(out, at, p.price);
     let at = put_count(out, at, b",\"quantity\":", p.quantity.0 as u64);
     put(out, at, b'}')
-}
-
-// The level at a place if it is one of the first n.
-fn put_listed(out: &mut [u8], at: usize, p: Pair, i: usize, n: usize) -> usize {
-    if i >= n {
-        return at;
-    }
-    let at = put_comma(out, at, i);
-    put_pair(out, at, p)
 }
 
 // The first n levels of a side.
 fn put_levels(out: &mut [u8], at: usize, side: [Pair; 5], n: usize) -> usize {
     let mut to = at;
-    let mut i = 0;
-    while i < 5 {
-        let p = side[i];
-        to = put_listed(out, to, p, i, n);
-        i += 1;
+    for (i, p) in side.iter().take(n).enumerate() {
+        to = put_comma(out, to, i);
+        to = put_pair(out, to, *p);
     }
     to
 }
@@ -60,10 +48,10 @@ pub fn put_sides(
 }
 
 // A trade, or null where there is none.
-pub fn put_trade(out: &mut [u8], at: usize, trade: Pair, is_sent: bool) -> usize {
+pub fn put_trade(out: &mut [u8], at: usize, trade: Option<Pair>) -> usize {
     let at = put_all(out, at, b",\"trade\":");
-    if is_sent {
-        return put_pair(out, at, trade);
+    match trade {
+        Some(p) => put_pair(out, at, p),
+        None => put_all(out, at, b"null"),
     }
-    put_all(out, at, b"null")
 }

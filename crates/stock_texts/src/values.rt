@@ -89,10 +89,8 @@ fn put_letter(out: &mut [u8], at: usize, b: u8) -> usize {
 
 fn put_letters(out: &mut [u8], at: usize, text: &[u8]) -> usize {
     let mut to = at;
-    let mut i = 0;
-    while i < text.len() {
-        to = put_letter(out, to, text[i]);
-        i += 1;
+    for b in text {
+        to = put_letter(out, to, *b);
     }
     to
 }

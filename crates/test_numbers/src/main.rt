@@ -7,21 +7,38 @@
 mod lines;
 mod streams;
 
-use ledger::{Ledger, clear};
+use ledger::{Ledger, PLACES, clear};
 use ledger_arrivals::arrive;
 use ledger_give_up::give_up;
 use lines::{put_arrival, put_give_up, put_ledger, put_lent};
 use std::io::{Read, Write};
 use std::process::ExitCode;
-use streams::{Input, LARGE, MOST, MUCH, read_all, say, written};
+use streams::{Failure, LARGE, MOST, MUCH, read_all, written};
 
-// The places of a record's numbers: its ends stand below this one, and nothing stands here.
-const ENDS: usize = 129;
+// Where a number of a record stands.
+#[derive(Clone, Copy, Debug, PartialEq, Eq)]
+enum Place {
+    // among the ends; nothing stands behind the last one without a slash
+    End(usize),
+    // behind the slash
+    Floor,
+    // and behind that, how many numbers were given up
+    Given,
+    // nothing stands behind it
+    Behind,
+}
 
-// The floor, and how many numbers were given up: the next ones behind a slash.
-const FLOOR: usize = 130;
-
-const GIVEN: usize = 131;
+impl Place {
+    // The place behind this one.
+    fn next(self) -> Place {
+        match self {
+            Place::End(i) if i < PLACES => Place::End(i + 1),
+            Place::End(_) => self,
+            Place::Floor => Place::Given,
+            Place::Given | Place::Behind => Place::Behind,
+        }
+    }
+}
 
 // The ledger, and the line so far: whether it gives up, a record and the place of its next number, then a number, if it has a
 // digit.
@@ -30,191 +47,138 @@ struct State {
     ledger: Ledger,
     gives_up: bool,
     record: Ledger,
-    place: usize,
-    started: bool,
-    number: u32,
+    place: Place,
+    number: Option<u32>,
     // how many bytes of text wait in the output buffer
     to: usize,
 }
 
 // A new line.
 fn line(ledger: Ledger, to: usize) -> State {
-    let record = clear();
     State {
         ledger,
         gives_up: false,
-        record,
-        place: 0,
-        started: false,
-        number: 0,
+        record: clear(),
+        place: Place::End(0),
+        number: None,
         to,
     }
 }
 
 // A record with a number at its place.
-fn with_number(record: Ledger, place: usize, n: u32) -> Ledger {
+fn with_number(record: Ledger, place: Place, n: u32) -> Ledger {
     let mut record = record;
-    if place < ENDS {
-        record.ends[place] = n;
-        return record;
-    }
-    if place == FLOOR {
-        record.floor = n;
-        return record;
-    }
-    if place == GIVEN {
-        record.given = n;
-        return record;
+    match place {
+        Place::End(i) if i < PLACES => record.ends[i] = n,
+        Place::Floor => record.floor = n,
+        Place::Given => record.given = n,
+        Place::End(_) | Place::Behind => {}
     }
     record
 }
 
-// The place behind another; nothing stands behind the last end without a slash, nor behind what was given up.
-fn behind(place: usize) -> usize {
-    if place == ENDS {
-        return place;
-    }
-    if GIVEN < place {
-        return place;
-    }
-    place + 1
-}
-
 // The number so far, if there is one, is one of a record.
 fn end_number(state: State) -> State {
-    if !state.started {
+    let Some(n) = state.number else {
         return state;
-    }
+    };
     let mut state = state;
-    let record = state.record;
-    state.record = with_number(record, state.place, state.number);
-    state.place = behind(state.place);
-    state.started = false;
-    state.number = 0;
+    state.record = with_number(state.record, state.place, n);
+    state.place = state.place.next();
+    state.number = None;
     state
 }
 
 // The next number of the record is its floor.
 fn end_ends(state: State) -> State {
     let mut state = end_number(state);
-    state.place = FLOOR;
+    state.place = Place::Floor;
     state
 }
 
 // A line that gives up.
 fn end_give_up(out: &mut [u8], state: State) -> State {
-    let before = state.ledger;
-    let gave_up = give_up(before);
-    let ledger = gave_up.ledger;
-    let answer = gave_up.answer;
-    let to = put_give_up(out, state.to, answer);
-    line(ledger, to)
+    let gave_up = give_up(state.ledger);
+    let to = put_give_up(out, state.to, gave_up.answer);
+    line(gave_up.ledger, to)
 }
 
 fn end_line(out: &mut [u8], state: State) -> State {
     if state.gives_up {
         return end_give_up(out, state);
     }
-    let before = state.ledger;
-    if state.place != 0 {
+    if state.place != Place::End(0) {
         let ended = end_number(state);
-        let record = ended.record;
-        let to = put_lent(out, state.to, record);
-        return line(before, to);
+        let to = put_lent(out, state.to, ended.record);
+        return line(state.ledger, to);
     }
-    if !state.started {
-        let to = put_ledger(out, state.to, before);
+    let Some(n) = state.number else {
+        let to = put_ledger(out, state.to, state.ledger);
         return line(clear(), to);
-    }
-    let arrived = arrive(before, state.number);
-    let ledger = arrived.ledger;
-    let answer = arrived.answer;
-    let to = put_arrival(out, state.to, state.number, answer);
-    line(ledger, to)
+    };
+    let arrived = arrive(state.ledger, n);
+    let to = put_arrival(out, state.to, n, arrived.answer);
+    line(arrived.ledger, to)
 }
 
 // A digit more, up to nine of them.
 fn add_digit(state: State, digit: u8) -> State {
-    if state.number >= 100_000_000 {
+    let n = state.number.unwrap_or(0);
+    if n >= 100_000_000 {
         return state;
     }
     let mut state = state;
-    state.started = true;
-    state.number = state.number * 10 + (digit as u32);
+    state.number = Some(n * 10 + u32::from(digit));
     state
 }
 
 fn take_byte(out: &mut [u8], state: State, b: u8) -> State {
-    if b == b'\n' {
-        return end_line(out, state);
+    match b {
+        b'\n' => end_line(out, state),
+        b' ' => end_number(state),
+        b'/' => end_ends(state),
+        b'g' => {
+            let mut state = state;
+            state.gives_up = true;
+            state
+        }
+        b'0'..=b'9' => add_digit(state, b - b'0'),
+        _ => state,
     }
-    if b == b' ' {
-        return end_number(state);
-    }
-    if b == b'/' {
-        return end_ends(state);
-    }
-    if b == b'g' {
-        let mut state = state;
-        state.gives_up = true;
-        return state;
-    }
-    if b < 48 {
-        return state;
-    }
-    if 57 < b {
-        return state;
-    }
-    add_digit(state, b - 48)
 }
 
-// Answers whether standard output took all the text.
-fn take_all<W: Write>(output: &mut W, input: &[u8], out: &mut [u8]) -> bool {
+// Prints what the lines tell.
+fn take_all<W: Write>(output: &mut W, input: &[u8], out: &mut [u8]) -> Result<(), Failure> {
     let mut state = line(clear(), 0);
-    let mut i = 0;
-    while i < input.len() {
-        state = take_byte(out, state, input[i]);
+    for &b in input {
+        state = take_byte(out, state, b);
         if MUCH <= state.to {
-            if !written(output, out, state.to) {
-                return false;
-            }
+            written(output, out, state.to)?;
             state.to = 0;
         }
-        i += 1;
     }
-    let ledger = state.ledger;
-    let to = put_ledger(out, state.to, ledger);
+    let to = put_ledger(out, state.to, state.ledger);
     written(output, out, to)
 }
 
-// Takes the first n bytes, unless they are too many.
-fn take<W: Write, E: Write>(
-    output: &mut W,
-    err: &mut E,
-    input: &[u8],
-    n: usize,
-    out: &mut [u8],
-) -> ExitCode {
-    if MOST < n {
-        return say(err, b"numbers: more than 65,536 bytes\n");
-    }
-    if n <= input.len() {
-        if !take_all(output, &input[0..n], out) {
-            return say(err, b"numbers: cannot write standard output\n");
-        }
-    }
-    ExitCode::SUCCESS
-}
-
-fn run<R: Read, W: Write, E: Write>(stream: &mut R, output: &mut W, err: &mut E) -> ExitCode {
-    let mut input = [0u8; 65537];
+// Takes standard input, unless it is too much.
+fn print<R: Read, W: Write>(stream: &mut R, output: &mut W) -> Result<(), Failure> {
+    let mut input = [0u8; 65_537];
     let mut out = [0u8; LARGE];
-    match read_all(stream, &mut input) {
-        Input::Bytes(n) => take(output, err, &input, n, &mut out),
-        Input::Failed => say(err, b"numbers: cannot read standard input\n"),
+    let n = read_all(stream, &mut input)?;
+    if MOST < n {
+        return Err(Failure::Long);
+    }
+    match input.get(..n) {
+        Some(bytes) => take_all(output, bytes, &mut out),
+        None => Ok(()),
     }
 }
 
 fn main(rt: HostRuntime) -> ExitCode {
-    run(&mut rt.stdin(), &mut rt.stdout(), &mut rt.stderr())
+    let Err(failure) = print(&mut rt.stdin(), &mut rt.stdout()) else {
+        return ExitCode::SUCCESS;
+    };
+    let _ = writeln!(&mut rt.stderr(), "numbers: {failure}");
+    ExitCode::FAILURE
 }

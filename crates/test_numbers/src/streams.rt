@@ -1,6 +1,6 @@
-// Standard input in one piece, and standard output in large ones; test_worked and test_numbers have this file in common.
+// Standard input in one piece, and standard output in large ones; test_worked has the like: a crate for two tests would cost the gate more.
+use std::fmt;
 use std::io::{Read, Write};
-use std::process::ExitCode;
 
 // The most bytes that a program takes. It has room for one more, so that it sees where there are more.
 pub(crate) const MOST: usize = 65_536;
@@ -11,41 +11,45 @@ pub(crate) const LARGE: usize = 65_536;
 // Text is written when there is this much of it: the output buffer then still has room for 4,096 bytes.
 pub(crate) const MUCH: usize = 61_440;
 
-#[derive(Clone, Copy)]
-pub(crate) enum Input {
-    // so many bytes: all of them, or as many as there is room for
-    Bytes(usize),
-    // it could not be read
-    Failed,
+// What failed.
+#[derive(Clone, Copy, Debug, PartialEq, Eq)]
+pub(crate) enum Failure {
+    // standard input could not be read
+    Read,
+    // it has more than MOST bytes
+    Long,
+    // standard output took no more, or a text that fills the buffer to its end may have been cut
+    Write,
 }
 
-// Reads standard input until it ends or the buffer is full.
-pub(crate) fn read_all<R: Read>(input: &mut R, buf: &mut [u8]) -> Input {
-    let mut n = 0;
-    while n < buf.len() {
-        match input.read(&mut buf[n..]) {
-            Ok(more) => {
-                if more == 0 {
-                    return Input::Bytes(n);
-                }
-                n += more;
-            }
-            Err(_) => return Input::Failed,
+impl fmt::Display for Failure {
+    fn fmt<W: fmt::Write>(&self, f: &mut fmt::Formatter<W>) -> fmt::Result {
+        match self {
+            Failure::Read => write!(f, "cannot read standard input"),
+            Failure::Long => write!(f, "more than 65,536 bytes"),
+            Failure::Write => write!(f, "cannot write standard output"),
         }
     }
-    Input::Bytes(n)
 }
 
-// Writes the text that waits, and answers whether all of it was taken. One that fills the buffer to its end may have been cut.
-pub(crate) fn written<W: Write>(output: &mut W, out: &[u8], to: usize) -> bool {
-    if to < out.len() {
-        return output.write_all(&out[0..to]).is_ok();
+// Reads standard input until it ends or the buffer is full, and answers how many bytes there are.
+pub(crate) fn read_all<R: Read>(input: &mut R, buf: &mut [u8]) -> Result<usize, Failure> {
+    let mut n = 0;
+    // no range: a read may give any number of bytes
+    while n < buf.len() {
+        let more = input.read(&mut buf[n..]).map_err(|_| Failure::Read)?;
+        if more == 0 {
+            break;
+        }
+        n += more;
     }
-    false
+    Ok(n)
 }
 
-// Says a text on standard error, and answers the exit status of a program that had something to say there, said or not.
-pub(crate) fn say<W: Write>(err: &mut W, text: &[u8]) -> ExitCode {
-    let _ = err.write_all(text);
-    ExitCode::FAILURE
+// Writes the text that waits, all of it.
+pub(crate) fn written<W: Write>(output: &mut W, out: &[u8], to: usize) -> Result<(), Failure> {
+    if out.len() <= to {
+        return Err(Failure::Write);
+    }
+    output.write_all(&out[..to]).map_err(|_| Failure::Write)
 }

@@ -15,18 +15,16 @@ pub(crate) fn put_bracketed(out: &mut [u8], at: usize, text: &[u8]) -> usize {
 pub(crate) fn put_two(out: &mut [u8], at: usize, n: u64) -> usize {
     let tens = (n / 10 % 10) as u8;
     let ones = (n % 10) as u8;
-    let at = put(out, at, 48 + tens);
-    put(out, at, 48 + ones)
+    let at = put(out, at, b'0' + tens);
+    put(out, at, b'0' + ones)
 }
 
 fn glyph(d: u8) -> u8 {
-    if d < 10 {
-        return 48 + d;
+    match d {
+        0..=9 => b'0' + d,
+        10..=15 => b'A' - 10 + d,
+        _ => b'?',
     }
-    if d < 16 {
-        return 55 + d;
-    }
-    b'?'
 }
 
 // A byte as two digits to the base sixteen.

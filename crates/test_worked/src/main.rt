@@ -2,8 +2,6 @@
 // The input is the exchange's own worked examples, which tests/worked/make.py makes, or another of 65,536 bytes at most.
 #![tactic(auto)]
 
-ghost use Rattle.std.specs.Prelude.{◌≤◌};
-
 mod forms;
 mod lines;
 mod streams;
@@ -13,28 +11,16 @@ use printing::{put, put_all, put_number};
 use std::io::{Read, Write};
 use std::process::ExitCode;
 use stock_reading::reading::{read, read_halt, read_notice, read_prices, read_quote};
-use streams::{Input, LARGE, MOST, MUCH, read_all, say, written};
+use streams::{Failure, LARGE, MOST, MUCH, read_all, written};
 
 // The message of an accepted frame.
 fn put_message(frame: &[u8], format: u8, out: &mut [u8], at: usize) -> usize {
-    if format == 5 {
-        let r = read_notice(frame, 0);
-        let m = r.notice;
-        return lines::put_notice(out, at, m);
+    match format {
+        5 => lines::put_notice(out, at, &read_notice(frame, 0).notice),
+        6 => lines::put_quote(out, at, &read_quote(frame, 0).quote),
+        12 => lines::put_prices(out, at, &read_prices(frame, 0).prices),
+        _ => lines::put_halt(out, at, &read_halt(frame, 0).halt),
     }
-    if format == 6 {
-        let r = read_quote(frame, 0);
-        let q = r.quote;
-        return lines::put_quote(out, at, q);
-    }
-    if format == 12 {
-        let r = read_prices(frame, 0);
-        let p = r.prices;
-        return lines::put_prices(out, at, p);
-    }
-    let r = read_halt(frame, 0);
-    let h = r.halt;
-    lines::put_halt(out, at, h)
 }
 
 fn put_answer(out: &mut [u8], at: usize, n: u8) -> usize {
@@ -44,8 +30,7 @@ fn put_answer(out: &mut [u8], at: usize, n: u8) -> usize {
 
 // What the reader says of a frame.
 fn put_reading(frame: &[u8], out: &mut [u8], at: usize) -> usize {
-    let answer = read(frame, 0);
-    match answer {
+    match read(frame, 0) {
         Answer::Accepted(f) => put_message(frame, f.format, out, at),
         Answer::NoFrame(n, _) => put_answer(out, at, n),
         Answer::Refused(n, length, _) => {
@@ -56,71 +41,42 @@ fn put_reading(frame: &[u8], out: &mut [u8], at: usize) -> usize {
     }
 }
 
-// The number of two bytes, high first.
-fn number(high: u8, low: u8) -> usize {
-    (high as usize) * 256 + (low as usize)
-}
-
-// Where a record of some bytes ends, or the input if that comes first.
-fn end_of(start: usize, length: usize, n: usize) -> usize
-    requires { start ≤ n }
-    ensures { (start ≤ result) × (result ≤ n) }
-{
-    if length <= n - start {
-        return start + length;
-    }
-    n
-}
-
-// A line for each record. Answers whether standard output took them all.
-fn put_records<W: Write>(output: &mut W, input: &[u8], out: &mut [u8]) -> bool {
+// A line for each record, of two bytes of its length, high first, and a frame; the last may be cut short.
+fn put_records<W: Write>(output: &mut W, input: &[u8], out: &mut [u8]) -> Result<(), Failure> {
     let mut to = 0;
-    let mut at = 0;
-    while at + 2 <= input.len() {
-        let length = number(input[at], input[at + 1]);
-        let start = at + 2;
-        let end = end_of(start, length, input.len());
-        to = put_reading(&input[start..end], out, to);
+    let mut rest = input;
+    while let [high, low, behind @ ..] = rest {
+        let length = u16::from_be_bytes([*high, *low]) as usize;
+        let (frame, later) = behind.split_at(length.min(behind.len()));
+        to = put_reading(frame, out, to);
         to = put(out, to, b'\n');
         if MUCH <= to {
-            if !written(output, out, to) {
-                return false;
-            }
+            written(output, out, to)?;
             to = 0;
         }
-        at = end;
+        rest = later;
     }
     written(output, out, to)
 }
 
-// Prints what the first n bytes are, unless they are too many.
-fn print<W: Write, E: Write>(
-    output: &mut W,
-    err: &mut E,
-    input: &[u8],
-    n: usize,
-    out: &mut [u8],
-) -> ExitCode {
-    if MOST < n {
-        return say(err, b"worked: more than 65,536 bytes\n");
-    }
-    if n <= input.len() {
-        if !put_records(output, &input[0..n], out) {
-            return say(err, b"worked: cannot write standard output\n");
-        }
-    }
-    ExitCode::SUCCESS
-}
-
-fn run<R: Read, W: Write, E: Write>(stream: &mut R, output: &mut W, err: &mut E) -> ExitCode {
-    let mut input = [0u8; 65537];
+// Prints what standard input is, unless it is too much.
+fn print<R: Read, W: Write>(stream: &mut R, output: &mut W) -> Result<(), Failure> {
+    let mut input = [0u8; 65_537];
     let mut out = [0u8; LARGE];
-    match read_all(stream, &mut input) {
-        Input::Bytes(n) => print(output, err, &input, n, &mut out),
-        Input::Failed => say(err, b"worked: cannot read standard input\n"),
+    let n = read_all(stream, &mut input)?;
+    if MOST < n {
+        return Err(Failure::Long);
+    }
+    match input.get(..n) {
+        Some(bytes) => put_records(output, bytes, &mut out),
+        None => Ok(()),
     }
 }
 
 fn main(rt: HostRuntime) -> ExitCode {
-    run(&mut rt.stdin(), &mut rt.stdout(), &mut rt.stderr())
+    let Err(failure) = print(&mut rt.stdin(), &mut rt.stdout()) else {
+        return ExitCode::SUCCESS;
+    };
+    let _ = writeln!(&mut rt.stderr(), "worked: {failure}");
+    ExitCode::FAILURE
 }

@@ -41,7 +41,7 @@ pub extern "C" fn trivsome_board_ask_numbers(
     time: &mut u64,
     amounts: &mut [u32; 23],
 ) -> u64
-    ensures value { result ≡ answer_outcome (asked_flat (flat heads.now cells.now) code.now).answer }
+    ensures value { result ≡ answer_outcome (asked_flat (flat heads.now cells.now) code.now) }
     ensures bytes_after { bytes.new ≡ lent_bytes (asked_flat (flat heads.now cells.now) code.now) bytes.old }
     ensures time_after { time.new ≡ lent_time (asked_flat (flat heads.now cells.now) code.now) time.old }
     ensures amounts_after { amounts.new ≡ lent_amounts (asked_flat (flat heads.now cells.now) code.now) amounts.old }
@@ -59,7 +59,7 @@ pub extern "C" fn trivsome_board_row_numbers(
     time: &mut u64,
     amounts: &mut [u32; 23],
 ) -> u64
-    ensures value { result ≡ answer_outcome (row_at_flat (flat heads.now cells.now) place).answer }
+    ensures value { result ≡ answer_outcome (row_at_flat (flat heads.now cells.now) place) }
     ensures bytes_after { bytes.new ≡ lent_bytes (row_at_flat (flat heads.now cells.now) place) bytes.old }
     ensures time_after { time.new ≡ lent_time (row_at_flat (flat heads.now cells.now) place) time.old }
     ensures amounts_after { amounts.new ≡ lent_amounts (row_at_flat (flat heads.now cells.now) place) amounts.old }

@@ -4,8 +4,6 @@ pub mod MoreLaws
 pub mod FigureLaws
 pub mod RowLaws
 pub mod MapLaws
-pub mod PastLaws
-pub mod TallyLaws
 pub mod TalliedLaws
 pub mod AnswerLaws
 pub mod ToldSteps

@@ -1,4 +1,5 @@
 -- However a line is cut, the rows that a program gives call by call are the rows of the whole line.
+use Rattle.std.specs.Prelude.{Ok, Err, Result}
 use Prim.Native.Nat.{ℕ, zero, suc, ◌+◌, ◌-◌, ◌≤◌, ◌<◌}
 use mathlib.Core.Path.{◌≡◌, refl, sym, ap, ◌∙◌}
 use mathlib.Core.Bool.{Bool, true, false, cond}
@@ -19,13 +20,15 @@ use Rattle.walk.specs.Told.{move_of, fresh, holds, told_of, on_told, next_of}
 use Rattle.walk.specs.Listed.{last_row, is_last, after_call, rows_by_calls}
 use Rattle.walk.specs.declared.rows.Kept.{Kept}
 use Rattle.walk.specs.declared.rows.Told.{Told}
-use Rattle.walk.specs.declared.rows.Told.TheVariants.{Nothing, One, Two, Full}
+use Rattle.walk.specs.declared.rows.Told.TheVariants.{Nothing, One, Two}
 use Rattle.walk.specs.declared.rows.Next.{Next}
-use Rattle.walk.specs.declared.rows.Next.TheVariants.{OneRow, TwoRows, Stopped, NoMore}
+use Rattle.walk.specs.declared.rows.Next.TheVariants.{OneRow, TwoRows, Stopped}
 use Rattle.walk.proofs.WalkLaws.{front, step, behind, takes-some, takes-within, walk-stops, walk-moves, walk-induct}
 use Rattle.walk.proofs.MoreLaws.{settled_says}
 use Rattle.walk.proofs.RowLaws.{given-closed}
 use Rattle.walk.proofs.ToldLaws.{run_of, told_rows, kept_by, told-gives}
+use Rattle.walk.specs.declared.rows.RowsError.TheVariants.{Full}
+use Rattle.walk.specs.declared.rows.RowsError.{RowsError}
 
 -- the place and the kept bytes can hold some bytes more
 abbrev pub Fits : Kept → ℕ → Type 0
@@ -48,11 +51,11 @@ module _ (says : List ℕ → Answer) (longest : ℕ) (S : Sound (answering says
         ≡ rows ++ given R true (run_of j.skipped) (walk_from R true j.at (drop (to - at) t ++ u))
 
   -- a call that gives rows takes a byte at least, and one that stops is where the walk stops; none is refused
-  abbrev pub Said : Bool → List ℕ → Kept → ℕ → List ℕ → Next → Type 0
-  Said c u k at t (OneRow r j to) = Gives u k at t (move_of r ∷ []) j to × (at < to)
-  Said c u k at t (TwoRows s r j to) = Gives u k at t (move_of s ∷ move_of r ∷ []) j to × (at < to)
-  Said c u k at t (Stopped j to) = Gives u k at t [] j to × (stops R c (drop (to - at) t) ≡ true)
-  Said c u k at t NoMore = ⊥
+  abbrev pub Said : Bool → List ℕ → Kept → ℕ → List ℕ → Result Next RowsError → Type 0
+  Said c u k at t (Ok (OneRow r j to)) = Gives u k at t (move_of r ∷ []) j to × (at < to)
+  Said c u k at t (Ok (TwoRows s r j to)) = Gives u k at t (move_of s ∷ move_of r ∷ []) j to × (at < to)
+  Said c u k at t (Ok (Stopped j to)) = Gives u k at t [] j to × (stops R c (drop (to - at) t) ≡ true)
+  Said c u k at t (Err Full) = ⊥
 
   rows_are : (u : List ℕ) (k : Kept) (at : ℕ) (t : List ℕ) (rows rows' : List (Move Answer)) (j : Kept) (to : ℕ) → rows ≡ rows' → Gives u k at t rows j to → Gives u k at t rows' j to
   rows_are u k at t rows rows' j to e g = record {
@@ -78,7 +81,7 @@ module _ (says : List ℕ → Answer) (longest : ℕ) (S : Sound (answering says
       abbrev n : ℕ
       n = step R t
 
-      abbrev told : Told
+      abbrev told : Result Told RowsError
       told = told_of k (says t) n
 
       n-some : 1 ≤ n
@@ -116,7 +119,7 @@ module _ (says : List ℕ → Answer) (longest : ℕ) (S : Sound (answering says
           }
 
       -- nothing told yet: what follows is told from here
-      gives-later : (j : Kept) → told ≡ Nothing j → (rows : List (Move Answer)) (i : Kept) (to : ℕ) → Gives u j (at + n) (behind R t) rows i to → Gives u k at t rows i to
+      gives-later : (j : Kept) → told ≡ Ok (Nothing j) → (rows : List (Move Answer)) (i : Kept) (to : ℕ) → Gives u j (at + n) (behind R t) rows i to → Gives u k at t rows i to
       gives-later j p rows i to g =
           let first = gives-told j (ap (kept_by k) p) in
           let far : n + (to - (at + n)) ≡ to - at = omega (arith, g.forward) in
@@ -134,26 +137,26 @@ module _ (says : List ℕ → Answer) (longest : ℕ) (S : Sound (answering says
                 (drop-drop (to - (at + n)) n t ∙ ap (λ (x : ℕ). drop x t) far);
           }
 
-      said-later : (j : Kept) → told ≡ Nothing j → (x : Next) → Said c u j (at + n) (behind R t) x → Said c u k at t x
-      said-later j p (OneRow r i to) s = (gives-later j p (move_of r ∷ []) i to s.0, omega (arith, s.1))
-      said-later j p (TwoRows q r i to) s = (gives-later j p (move_of q ∷ move_of r ∷ []) i to s.0, omega (arith, s.1))
-      said-later j p (Stopped i to) s =
+      said-later : (j : Kept) → told ≡ Ok (Nothing j) → (x : Result Next RowsError) → Said c u j (at + n) (behind R t) x → Said c u k at t x
+      said-later j p (Ok (OneRow r i to)) s = (gives-later j p (move_of r ∷ []) i to s.0, omega (arith, s.1))
+      said-later j p (Ok (TwoRows q r i to)) s = (gives-later j p (move_of q ∷ move_of r ∷ []) i to s.0, omega (arith, s.1))
+      said-later j p (Ok (Stopped i to)) s =
           let far : n + (to - (at + n)) ≡ to - at = omega (arith, s.0.forward) in
           (gives-later j p [] i to s.0, sym (ap (stops R c) (drop-drop (to - (at + n)) n t ∙ ap (λ (x : ℕ). drop x t) far)) ∙ s.1)
-      said-later j p NoMore s = s
+      said-later j p (Err Full) s = s
 
-      said-told : (x : Told) → told ≡ x → (more : Kept → ℕ → Next) → ((j : Kept) → j.at ≡ k.at + n → Fits j (length (behind R t) + length u) → Said c u j (at + n) (behind R t) (more j (at + n)))
+      said-told : (x : Result Told RowsError) → told ≡ x → (more : Kept → ℕ → Result Next RowsError) → ((j : Kept) → j.at ≡ k.at + n → Fits j (length (behind R t) + length u) → Said c u j (at + n) (behind R t) (more j (at + n)))
           → Said c u k at t (on_told x (at + n) more)
-      said-told (Nothing j) p more ih =
+      said-told (Ok (Nothing j)) p more ih =
           let g = gives-told j (ap (kept_by k) p) in
-          said-later j p (more j (at + n)) (ih j (sym (ap (λ (x : Told). (kept_by k x).at) p) ∙ law.1) (omega (arith, g.fits.0, length-behind, n_within), g.fits.1))
-      said-told (One r j) p more ih =
+          said-later j p (more j (at + n)) (ih j (sym (ap (λ (x : Result Told RowsError). (kept_by k x).at) p) ∙ law.1) (omega (arith, g.fits.0, length-behind, n_within), g.fits.1))
+      said-told (Ok (One r j)) p more ih =
           let g = gives-told j (ap (kept_by k) p) in
           (rows_are u k at t (told_rows told) (move_of r ∷ []) j (at + n) (ap told_rows p) g, omega (arith, n-some))
-      said-told (Two s r j) p more ih =
+      said-told (Ok (Two s r j)) p more ih =
           let g = gives-told j (ap (kept_by k) p) in
           (rows_are u k at t (told_rows told) (move_of s ∷ move_of r ∷ []) j (at + n) (ap told_rows p) g, omega (arith, n-some))
-      said-told Full p more ih = absurd (omega (arith, n-some, ap (λ (x : Told). (kept_by k x).at) p, law.1))
+      said-told (Err Full) p more ih = absurd (omega (arith, n-some, ap (λ (x : Result Told RowsError). (kept_by k x).at) p, law.1))
 
     -- one call over some bytes
     call-says : (place : ℕ) (t : List ℕ) (k : Kept) (at : ℕ) → k.at ≡ place → Fits k (length t + length u) → Said c u k at t (next_of (walk_from R c place t) k at)
@@ -230,14 +233,14 @@ module _ (says : List ℕ → Answer) (longest : ℕ) (S : Sound (answering says
         let none : walk_from R true j.at (drop (to - 0) hand ++ []) ≡ [] = ap (walk_from R true j.at) (append-nil (drop (to - 0) hand)) ∙ (walk-stops R longest S true j.at (drop (to - 0) hand) e).0 in
         last-run j ∙ sym (g.gives ∙ ap (given R true (run_of j.skipped)) none)
 
-    rows-follow : (pieces : List (List ℕ)) → length hand + length (flatten pieces) + length pieces ≤ n → (x : Next) → Said (is_last pieces) (flatten pieces) k 0 hand x
+    rows-follow : (pieces : List (List ℕ)) → length hand + length (flatten pieces) + length pieces ≤ n → (x : Result Next RowsError) → Said (is_last pieces) (flatten pieces) k 0 hand x
         → map move_of (after_call x hand pieces (rows_by_calls R n)) ≡ to_give k hand pieces
     unfolding flatten
-    rows-follow pieces less (OneRow r j to) s = goes_on pieces (move_of r ∷ []) j to less s.0 s.1
-    rows-follow pieces less (TwoRows q r j to) s = goes_on pieces (move_of q ∷ move_of r ∷ []) j to less s.0 s.1
-    rows-follow [] less (Stopped j to) s = closes j to s.0 s.1
-    rows-follow (p ∷ ps) less (Stopped j to) s = takes-piece p ps j to less s.0
-    rows-follow pieces less NoMore s = absurd s
+    rows-follow pieces less (Ok (OneRow r j to)) s = goes_on pieces (move_of r ∷ []) j to less s.0 s.1
+    rows-follow pieces less (Ok (TwoRows q r j to)) s = goes_on pieces (move_of q ∷ move_of r ∷ []) j to less s.0 s.1
+    rows-follow [] less (Ok (Stopped j to)) s = closes j to s.0 s.1
+    rows-follow (p ∷ ps) less (Ok (Stopped j to)) s = takes-piece p ps j to less s.0
+    rows-follow pieces less (Err Full) s = absurd s
 
   -- a call on an open line, and one on a closed line with nothing behind it
   same-open : (u t : List ℕ) → stops R false t ≡ false → (says (t ++ u) ≡ says t) × (stops R true (t ++ u) ≡ false)

@@ -1,4 +1,5 @@
 -- Bytes before the next 27 may be told at once.
+use Rattle.std.specs.Prelude.{None, Result}
 use Prim.Native.Nat.{ℕ, zero, suc, ◌+◌, ◌≤◌, ◌<◌}
 use mathlib.Core.Path.{◌≡◌, refl, sym, ap, ◌∙◌}
 use mathlib.Core.Bool.{Bool, true, false, cond}
@@ -9,7 +10,6 @@ use lib.ListN.{length, get_or, drop, drop_of_length-le}
 use lib.Seq.{drop-cons}
 use lib.Dec.{eqb}
 use borrow.Author.Tests.{eqb-false, eq-eqb, ne_eqb}
-use Rattle.digits.specs.declared.halves.Place.TheVariants.{None}
 use Rattle.answers.specs.declared.Answer.{Answer}
 use Rattle.answers.specs.declared.Answer.TheVariants.{NoFrame}
 use Rattle.walk.specs.Walk.{Reading, Move, taken, stops, walk_from}
@@ -22,6 +22,7 @@ use Rattle.walk.specs.declared.rows.Told.{Told}
 use Rattle.walk.specs.declared.rows.Next.{Next}
 use Rattle.walk.proofs.WalkLaws.{walk-moves}
 use Rattle.walk.proofs.ToldLaws.{half, told-half, told-twice, told-full}
+use Rattle.walk.specs.declared.rows.RowsError.{RowsError}
 
 -- ---- the noise from a place of a line on
 at_place : (line : List ℕ) (i : ℕ) → i < length line → drop i line ≡ get_or line i 0 ∷ drop (i + 1) line
@@ -50,7 +51,7 @@ module _ (says : List ℕ → Answer) (longest : ℕ) (S : Sound (answering says
       ∙ (λ i. record { at = place; said = q i; bytes = taken R (q i) } ∷ walk_from R c (place + taken R (q i)) (drop (taken R (q i)) (b ∷ bs)))
 
   -- what follows them
-  abbrev later : Kept → ℕ → List ℕ → ℕ → Next
+  abbrev later : Kept → ℕ → List ℕ → ℕ → Result Next RowsError
   later k n t at = on_told (told_of k (NoFrame 1 None) n) (at + n) (next_of (walk_from R c (k.at + n) (drop n t)))
 
   one : (k : Kept) (b : ℕ) (bs : List ℕ) (at : ℕ) → (b ≡ 27 → ⊥) → next_of (walk_from R c k.at (b ∷ bs)) k at ≡ later k 1 (b ∷ bs) at
@@ -78,10 +79,10 @@ module _ (says : List ℕ → Answer) (longest : ℕ) (S : Sound (answering says
       go true e ih =
           let far : at + 1 + suc n ≡ at + suc (suc n) = omega arith in
           let place : k.at + 1 + suc n ≡ k.at + suc (suc n) = omega arith in
-          ap (λ (x : Told). on_told x (at + 1) (next_of (walk_from R c (k.at + 1) bs))) (told-half k (NoFrame 1 None) refl 1 (suc n) (omega arith) e)
+          ap (λ (x : Result Told RowsError). on_told x (at + 1) (next_of (walk_from R c (k.at + 1) bs))) (told-half k (NoFrame 1 None) refl 1 (suc n) (omega arith) e)
           ∙ ih (half k (NoFrame 1 None) refl 1 (suc n) (omega arith))
           ∙ (λ i. on_told ((told-twice k (NoFrame 1 None) refl 1 (suc n) (omega arith) ∙ ap (told_of k (NoFrame 1 None)) joined) i) (far i) (next_of (walk_from R c (place i) (drop (suc n) bs))))
       go false e ih =
           let f = told-full k (NoFrame 1 None) refl 1 (suc n) (omega arith) e in
-          ap (λ (x : Told). on_told x (at + 1) (next_of (walk_from R c (k.at + 1) bs))) f.0
-          ∙ sym (ap (λ (x : Told). on_told x (at + suc (suc n)) (next_of (walk_from R c (k.at + suc (suc n)) (drop (suc n) bs)))) (sym (ap (told_of k (NoFrame 1 None)) joined) ∙ f.1))
+          ap (λ (x : Result Told RowsError). on_told x (at + 1) (next_of (walk_from R c (k.at + 1) bs))) f.0
+          ∙ sym (ap (λ (x : Result Told RowsError). on_told x (at + suc (suc n)) (next_of (walk_from R c (k.at + suc (suc n)) (drop (suc n) bs)))) (sym (ap (told_of k (NoFrame 1 None)) joined) ∙ f.1))

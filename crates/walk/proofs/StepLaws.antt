@@ -1,4 +1,5 @@
 -- A step of a line's walk by its number and its values: those of what the reading says at its place.
+use Rattle.std.specs.Prelude.{None, Some}
 use Prim.Native.Nat.{ℕ}
 use mathlib.Core.Path.{◌≡◌, refl, sym}
 use mathlib.Core.Bool.{Bool, true, false, cond}
@@ -11,7 +12,6 @@ use Rattle.answers.specs.declared.Answer.{Answer}
 use Rattle.walk.specs.Walk.{Reading, taken, stops}
 use Rattle.walk.specs.Answers.{answering}
 use Rattle.walk.specs.Lines.{move_at, step_number, step_values}
-use Rattle.walk.specs.declared.moves.Step.TheVariants.{Moved, Stopped}
 
 module _ (says : List ℕ → Answer) (closed : Bool) (at : ℕ) (line : List ℕ) where
   abbrev R : Reading Answer
@@ -25,7 +25,7 @@ module _ (says : List ℕ → Answer) (closed : Bool) (at : ℕ) (line : List �
   step-number = go (stops R closed from) refl
     where
       go : (b : Bool) → stops R closed from ≡ b
-          → step_number (cond b Stopped (Moved (record { at = at; bytes = taken R (says from); answer = says from }))) ≡ answer_number (says from)
+          → step_number (cond b None (Some (record { at = at; bytes = taken R (says from); answer = says from }))) ≡ answer_number (says from)
       go true e = sym (eqb-true (answer_number (says from)) 2 (and_left _ _ e))
       go false e = refl
 

@@ -1,4 +1,5 @@
 -- One move more gives the rows that the moves give, and keeps what they keep.
+use Rattle.std.specs.Prelude.{Ok, Err, Result}
 use Prim.Native.Nat.{ℕ, ◌+◌, ◌≤◌}
 use mathlib.Core.Path.{◌≡◌, refl, sym, ap, ◌∙◌}
 use mathlib.Core.Bool.{Bool, true, false, cond, not, ◌&&◌}
@@ -17,7 +18,9 @@ use Rattle.walk.specs.Told.{move_of, no_row, joined_row, holds, told_of}
 use Rattle.walk.specs.declared.rows.Row.{Row}
 use Rattle.walk.specs.declared.rows.Kept.{Kept}
 use Rattle.walk.specs.declared.rows.Told.{Told}
-use Rattle.walk.specs.declared.rows.Told.TheVariants.{Nothing, One, Two, Full}
+use Rattle.walk.specs.declared.rows.Told.TheVariants.{Nothing, One, Two}
+use Rattle.walk.specs.declared.rows.RowsError.TheVariants.{Full}
+use Rattle.walk.specs.declared.rows.RowsError.{RowsError}
 
 -- the kept skipped bytes as rows: none, or one
 abbrev pub run_of : Row → List (Move Answer)
@@ -33,17 +36,17 @@ run-joined s r h = go (eqb s.bytes 0) refl
     go false e = rw (ne_eqb (s.bytes + r.bytes) 0 (λ q. omega (arith, q)))
 
 -- the rows that a call tells, and what it keeps
-abbrev pub told_rows : Told → List (Move Answer)
-told_rows (Nothing k) = []
-told_rows (One r k) = move_of r ∷ []
-told_rows (Two s r k) = move_of s ∷ move_of r ∷ []
-told_rows Full = []
+abbrev pub told_rows : Result Told RowsError → List (Move Answer)
+told_rows (Ok (Nothing k)) = []
+told_rows (Ok (One r k)) = move_of r ∷ []
+told_rows (Ok (Two s r k)) = move_of s ∷ move_of r ∷ []
+told_rows (Err Full) = []
 
-abbrev pub kept_by : Kept → Told → Kept
-kept_by k (Nothing j) = j
-kept_by k (One r j) = j
-kept_by k (Two s r j) = j
-kept_by k Full = k
+abbrev pub kept_by : Kept → Result Told RowsError → Kept
+kept_by k (Ok (Nothing j)) = j
+kept_by k (Ok (One r j)) = j
+kept_by k (Ok (Two s r j)) = j
+kept_by k (Err Full) = k
 
 module _ (says : List ℕ → Answer) (k : Kept) (a : Answer) (n : ℕ) (h : holds k n ≡ true) (some : 1 ≤ n) where
   abbrev R : Reading Answer
@@ -63,9 +66,9 @@ module _ (says : List ℕ → Answer) (k : Kept) (a : Answer) (n : ℕ) (h : hol
   unfolding told_of
   told-gives c ms = rw h (go (is_whole (answer_number a)) (eqb k.skipped.bytes 0) refl)
     where
-      T : Bool → Bool → Told
-      T w z = cond (not w) (Nothing (record { at = k.at + n; skipped = joined_row k.skipped row }))
-          (cond z (One row (record { at = k.at + n; skipped = no_row })) (Two k.skipped row (record { at = k.at + n; skipped = no_row })))
+      T : Bool → Bool → Result Told RowsError
+      T w z = cond (not w) (Ok (Nothing (record { at = k.at + n; skipped = joined_row k.skipped row })))
+          (Ok (cond z (One row (record { at = k.at + n; skipped = no_row })) (Two k.skipped row (record { at = k.at + n; skipped = no_row }))))
 
       joined_bytes : (b : Bool) → (cond b row (record { at = k.skipped.at; bytes = k.skipped.bytes + n; answer = k.skipped.answer })).bytes ≤ k.skipped.bytes + n
       joined_bytes true = omega arith
@@ -115,7 +118,7 @@ module _ (k : Kept) (a : Answer) (skip : is_skipped (answer_number a) ≡ true) 
   same_place : k.at + n + m ≡ k.at + (n + m)
   same_place = omega arith
 
-  pub told-half : holds k n ≡ true → told_of k a n ≡ Nothing half
+  pub told-half : holds k n ≡ true → told_of k a n ≡ Ok (Nothing half)
   unfolding told_of
   told-half h = rw (h, skip)
 
@@ -123,7 +126,7 @@ module _ (k : Kept) (a : Answer) (skip : is_skipped (answer_number a) ≡ true) 
   unfolding told_of
   told-twice =
       rw skip
-      (λ i. cond (leb (same_place i) largest && leb (same_bytes i) largest) (Nothing (record { at = same_place i; skipped = joined-twice i })) Full)
+      (λ i. cond (leb (same_place i) largest && leb (same_bytes i) largest) (Ok (Nothing (record { at = same_place i; skipped = joined-twice i }))) (Err Full))
 
   -- room for all is room for the first ones
   no_more : holds k n ≡ false → holds k (n + m) ≡ false
@@ -136,6 +139,6 @@ module _ (k : Kept) (a : Answer) (skip : is_skipped (answer_number a) ≡ true) 
           let y = leb-true (k.skipped.bytes + (n + m)) largest (and_right (leb (k.at + (n + m)) largest) _ e) in
           absurd (no_false (sym h ∙ and_both (le-leb (k.at + n) largest (omega (arith, x))) (le-leb (k.skipped.bytes + n) largest (omega (arith, y)))))
 
-  pub told-full : holds k n ≡ false → (told_of k a n ≡ Full) × (told_of k a (n + m) ≡ Full)
+  pub told-full : holds k n ≡ false → (told_of k a n ≡ Err Full) × (told_of k a (n + m) ≡ Err Full)
   unfolding told_of
   told-full h = (rw h, rw (no_more h))

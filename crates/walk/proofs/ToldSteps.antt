@@ -1,75 +1,37 @@
--- What one move more gives, by the tests on its numbers.
-use Prim.Native.Nat.{ℕ, ◌+◌, ◌-◌, ◌≤◌, ◌<◌}
+-- Where one move more gives 16, and where some moves do.
+use Rattle.std.specs.Prelude.{Ok, Err, Result}
+use Prim.Native.Nat.{ℕ, ◌+◌}
 use mathlib.Core.Path.{◌≡◌, refl, sym}
 use mathlib.Core.Bool.{Bool, true, false, cond, ◌&&◌}
 use mathlib.Core.List.{List, [], ◌∷◌}
 use mathlib.Core.Logic.{◌↔◌}
 use native.Mathlib.Omega.{arith}
 use lib.Dec.{eqb}
-use borrow.Author.Tests.{eq-eqb, ne_eqb, le-leb, lt-leb}
 use Rattle.digits.proofs.Bools.{no_false}
 use Rattle.answers.specs.Answers.{answer_number}
 use Rattle.answers.specs.declared.Answer.{Answer}
-use Rattle.walk.specs.Walk.{Move, is_whole}
-use Rattle.walk.specs.Tally.{is_skipped, largest}
-use Rattle.walk.specs.Told.{no_row, joined_row, framed_row, holds, told_of, on_told, next_of, passes, told_number, next_number}
+use Rattle.walk.specs.Walk.{Move}
+use Rattle.walk.specs.Tally.{is_skipped}
+use Rattle.walk.specs.Told.{no_row, joined_row, holds, told_of, on_told, next_of, passes, told_number, next_number}
 use Rattle.walk.specs.declared.rows.Row.{Row}
 use Rattle.walk.specs.declared.rows.Kept.{Kept}
 use Rattle.walk.specs.declared.rows.Told.{Told}
-use Rattle.walk.specs.declared.rows.Told.TheVariants.{Nothing, One, Two, Full}
-
--- ---- rows that join
-module _ (s r : Row) where
-  pub joins-none : s.bytes ≡ 0 → r ≡ joined_row s r
-  joins-none e = rw (eq-eqb s.bytes 0 e)
-
-  pub joins-some : (s.bytes ≡ 0 → ⊥) → record { at = s.at; bytes = s.bytes + r.bytes; answer = s.answer } ≡ joined_row s r
-  joins-some e = rw (ne_eqb s.bytes 0 e)
-
-  module _ (at : ℕ) (none : Row) (is : none ≡ no_row) where
-    pub framed-alone : s.bytes ≡ 0 → One r (record { at = at; skipped = none }) ≡ framed_row s r at
-    framed-alone e = rw (eq-eqb s.bytes 0 e) (λ i. One r (record { at = at; skipped = is i }))
-
-    pub framed-behind : (s.bytes ≡ 0 → ⊥) → Two s r (record { at = at; skipped = none }) ≡ framed_row s r at
-    framed-behind e = rw (ne_eqb s.bytes 0 e) (λ i. Two s r (record { at = at; skipped = is i }))
-
--- ---- what a move gives
-module _ (k : Kept) (a : Answer) (n : ℕ) (h : n ≤ largest) where
-  pub no_place : largest - n < k.at → Full ≡ told_of k a n
-  unfolding told_of
-  no_place l = rw (lt-leb (k.at + n) largest (omega arith))
-
-  module _ (p : k.at ≤ largest - n) where
-    pub no_run : largest - n < k.skipped.bytes → Full ≡ told_of k a n
-    unfolding told_of
-    no_run l = rw (le-leb (k.at + n) largest (omega arith), lt-leb (k.skipped.bytes + n) largest (omega arith))
-
-    module _ (q : k.skipped.bytes ≤ largest - n) where
-      pub held : holds k n ≡ true
-      held = rw (le-leb (k.at + n) largest (omega arith), le-leb (k.skipped.bytes + n) largest (omega arith))
-
-      pub told-frame : (t : Told) → t ≡ framed_row k.skipped (record { at = k.at; bytes = n; answer = a }) (k.at + n) → is_whole (answer_number a) ≡ true
-          → t ≡ told_of k a n
-      unfolding told_of
-      told-frame t e w = rw (held, w) e
-
-      pub told-skip : (r : Row) → r ≡ joined_row k.skipped (record { at = k.at; bytes = n; answer = a }) → is_whole (answer_number a) ≡ false
-          → Nothing (record { at = k.at + n; skipped = r }) ≡ told_of k a n
-      unfolding told_of
-      told-skip r e w = rw (held, w) (λ i. Nothing (record { at = k.at + n; skipped = e i }))
+use Rattle.walk.specs.declared.rows.Told.TheVariants.{Nothing, One, Two}
+use Rattle.walk.specs.declared.rows.RowsError.TheVariants.{Full}
+use Rattle.walk.specs.declared.rows.RowsError.{RowsError}
 
 -- 16 is given exactly where the place or the kept bytes cannot hold the move
 pub sixteen-exactly : (k : Kept) (a : Answer) (n : ℕ) → (told_number (told_of k a n) ≡ 16) ↔ (holds k n ≡ false)
 unfolding told_of
 sixteen-exactly k a n = go (holds k n) (is_skipped (answer_number a)) (eqb k.skipped.bytes 0)
   where
-    T : Bool → Bool → Bool → Told
+    T : Bool → Bool → Bool → Result Told RowsError
     T h s z =
         cond h
-        (cond s (Nothing (record { at = k.at + n; skipped = joined_row k.skipped (record { at = k.at; bytes = n; answer = a }) }))
-        (cond z (One (record { at = k.at; bytes = n; answer = a }) (record { at = k.at + n; skipped = no_row }))
-        (Two k.skipped (record { at = k.at; bytes = n; answer = a }) (record { at = k.at + n; skipped = no_row }))))
-        Full
+        (cond s (Ok (Nothing (record { at = k.at + n; skipped = joined_row k.skipped (record { at = k.at; bytes = n; answer = a }) })))
+        (Ok (cond z (One (record { at = k.at; bytes = n; answer = a }) (record { at = k.at + n; skipped = no_row }))
+        (Two k.skipped (record { at = k.at; bytes = n; answer = a }) (record { at = k.at + n; skipped = no_row })))))
+        (Err Full)
 
     none : ◌≡◌ {A = ℕ} 0 16 → true ≡ false
     none q = absurd (omega arith)
@@ -93,10 +55,10 @@ next-sixteen-exactly (m ∷ ms) k at =
     later : Kept
     later = record { at = k.at + m.bytes; skipped = joined_row k.skipped row }
 
-    T : Bool → Bool → Bool → Told
+    T : Bool → Bool → Bool → Result Told RowsError
     T h s z =
         let alone : Kept = record { at = k.at + m.bytes; skipped = no_row } in
-        cond h (cond s (Nothing later) (cond z (One row alone) (Two k.skipped row alone))) Full
+        cond h (cond s (Ok (Nothing later)) (Ok (cond z (One row alone) (Two k.skipped row alone)))) (Err Full)
 
     none : ◌≡◌ {A = ℕ} 0 16 → false ≡ true
     none q = absurd (omega arith)

@@ -1,5 +1,6 @@
 -- The turns of the loops over a line, in the words of the code: the answer at a place, and how far it moves the walk. They are
 -- said of any line's reading.
+use Rattle.std.specs.Prelude.{None, Some, Ok, Err, Result}
 use Prim.Native.Nat.{ℕ, suc, ◌+◌, ◌-◌, ◌≤◌, ◌<◌}
 use mathlib.Core.Path.{◌≡◌, refl, sym, ap, ◌∙◌, subst}
 use mathlib.Core.Bool.{Bool, true, false, cond}
@@ -9,7 +10,6 @@ use lib.ListN.{length, drop, length-drop}
 use lib.Seq.{drop-drop}
 use lib.Dec.{eqb}
 use borrow.Author.Tests.{eqb-false, eq-eqb, ne_eqb}
-use Rattle.digits.specs.declared.halves.Place.TheVariants.{None}
 use Rattle.answers.specs.declared.Answer.{Answer}
 use Rattle.answers.specs.declared.Answer.TheVariants.{NoFrame}
 use Rattle.walk.specs.Walk.{Reading, walk_from}
@@ -23,26 +23,27 @@ use Rattle.walk.specs.declared.tally.Tally.{Tally}
 use Rattle.walk.specs.declared.rows.Row.{Row}
 use Rattle.walk.specs.declared.rows.Kept.{Kept}
 use Rattle.walk.specs.declared.rows.Told.{Told}
-use Rattle.walk.specs.declared.rows.Told.TheVariants.{Nothing, One, Two, Full}
+use Rattle.walk.specs.declared.rows.Told.TheVariants.{Nothing, One, Two}
 use Rattle.walk.specs.declared.rows.Next.{Next}
-use Rattle.walk.specs.declared.rows.Next.TheVariants.{OneRow, TwoRows, NoMore}
+use Rattle.walk.specs.declared.rows.Next.TheVariants.{OneRow, TwoRows}
 use Rattle.walk.specs.declared.rows.Next.TheVariants.{Stopped as No-row}
-use Rattle.walk.specs.declared.moves.Step.TheVariants.{Moved, Stopped}
 use Rattle.walk.specs.declared.stretch.Stretch.{Stretch}
 use Rattle.walk.proofs.AnswerLaws.{past-stops, past-moves, some_left, none_left, move-within, Counting, counting-begins, counting-ends, counting-stops, counting-moves}
 use Rattle.walk.proofs.NextLaws.{kept-behind, next-ends, next-stops, next-told}
 use Rattle.walk.proofs.NoiseLaws.{noise-next}
+use Rattle.walk.specs.declared.rows.RowsError.TheVariants.{Full}
+use Rattle.walk.specs.declared.rows.RowsError.{RowsError}
 
 -- what is counted up to a place, and what is still to give from one on
 abbrev pub Counted : LineReading → Bool → List ℕ → Tally → ℕ → Type 0
 Counted L c line t at = Counting L.says L.longest L.sound c line t at
 
-abbrev pub to_give : LineReading → Bool → List ℕ → Kept → ℕ → Next
+abbrev pub to_give : LineReading → Bool → List ℕ → Kept → ℕ → Result Next RowsError
 to_give L c line k at = next_rows L.says c k at line
 
 -- ---- at a line's end
 module _ (L : LineReading) (c : Bool) (line : List ℕ) where
-  pub ends : (at : ℕ) → length line ≤ at → Stopped ≡ move_at L.says c at line
+  pub ends : (at : ℕ) → length line ≤ at → None ≡ move_at L.says c at line
   ends at h = rw (none_left L.says L.longest L.sound c line at h)
 
   pub counted-begins : (t : Tally) → t ≡ no_bytes → Counted L c line t 0
@@ -51,7 +52,7 @@ module _ (L : LineReading) (c : Bool) (line : List ℕ) where
   pub counted-ends : (t : Tally) (at : ℕ) → Counted L c line t at → length line ≤ at → t ≡ tally_of (answering L.says) c line
   counted-ends = counting-ends L.says L.longest L.sound c line
 
-  pub gives-no-more : (k : Kept) (at : ℕ) → length line ≤ at → No-row k at ≡ to_give L c line k at
+  pub gives-no-more : (k : Kept) (at : ℕ) → length line ≤ at → Ok (No-row k at) ≡ to_give L c line k at
   gives-no-more = next-ends L.says L.longest L.sound c line
 
 -- ---- at a place of it
@@ -76,13 +77,13 @@ module _ {L : LineReading} {c : Bool} {line : List ℕ} {at : ℕ} {a : Answer} 
       subst (λ (m : ℕ). at + m ≤ length line) (sym moves-by)
       (move-within L.says L.longest L.sound c line at h (λ z. e (moves-by ∙ z)))
 
-  pub stops-here : n ≡ 0 → Stopped ≡ move_at L.says c at line
+  pub stops-here : n ≡ 0 → None ≡ move_at L.says c at line
   stops-here e = rw (past-stops L.says L.longest L.sound c (drop at line) some (sym moves-by ∙ e))
 
-  pub moves-here : (n ≡ 0 → ⊥) → Moved (record { at = at; bytes = n; answer = a }) ≡ move_at L.says c at line
+  pub moves-here : (n ≡ 0 → ⊥) → Some (record { at = at; bytes = n; answer = a }) ≡ move_at L.says c at line
   moves-here e =
       let m = past-moves L.says L.longest L.sound c (drop at line) some (λ z. e (moves-by ∙ z)) in
-      rw m.0 (λ i. Moved (record { at = at; bytes = (moves-by ∙ m.1) i; answer = T.says i }))
+      rw m.0 (λ i. Some (record { at = at; bytes = (moves-by ∙ m.1) i; answer = T.says i }))
 
   module _ (t : Tally) (k : Counted L c line t at) where
     pub counted-stops : n ≡ 0 → record { accepted = t.accepted; refused = t.refused; skipped = t.skipped; waiting = length line - at } ≡ tally_of (answering L.says) c line
@@ -148,9 +149,9 @@ module _ {L : LineReading} {c : Bool} {line : List ℕ} {at : ℕ} {s : Stretch}
       by_kind (at + s.bytes ≤ length line) (λ T. stays_within T e)
       (λ N. omega (arith, N.is-noise, noise-within bytes, length-drop at line, M.left_over))
 
-  pub met-stops : s.bytes ≡ 0 → (k : Kept) → No-row k at ≡ to_give L c line k at
+  pub met-stops : s.bytes ≡ 0 → (k : Kept) → Ok (No-row k at) ≡ to_give L c line k at
   met-stops e k =
-      by_kind (No-row k at ≡ to_give L c line k at)
+      by_kind (Ok (No-row k at) ≡ to_give L c line k at)
       (λ T. next-stops L.says L.longest L.sound c line k at M.left_over (sym (moves-by T) ∙ e))
       (λ N. absurd (omega (arith, N.some, e)))
 
@@ -171,23 +172,23 @@ module _ {L : LineReading} {c : Bool} {line : List ℕ} {at : ℕ} {s : Stretch}
           noise-next L.says L.longest L.sound L.quiet c s.bytes bytes k at N.some (omega (arith, N.is-noise))
           ∙ (λ i. on_told (told_of k (sym N.answers_one i) s.bytes) (at + s.bytes) (next_of (walk_from R c (k.at + s.bytes) (drop-drop s.bytes at line i))))
 
-  module _ (k : Kept) (e : s.bytes ≡ 0 → ⊥) (x : Told) (q : x ≡ told_of k s.answer s.bytes) where
-    abbrev further : Kept → ℕ → Next
+  module _ (k : Kept) (e : s.bytes ≡ 0 → ⊥) (x : Result Told RowsError) (q : x ≡ told_of k s.answer s.bytes) where
+    abbrev further : Kept → ℕ → Result Next RowsError
     further = next_of (walk_from R c (k.at + s.bytes) (drop (at + s.bytes) line))
 
-    gives : (y : Told) → x ≡ y → on_told y (at + s.bytes) further ≡ to_give L c line k at
-    gives y p = ap (λ (u : Told). on_told u (at + s.bytes) further) (sym p ∙ q) ∙ sym (met-tells e k)
+    gives : (y : Result Told RowsError) → x ≡ y → on_told y (at + s.bytes) further ≡ to_give L c line k at
+    gives y p = ap (λ (u : Result Told RowsError). on_told u (at + s.bytes) further) (sym p ∙ q) ∙ sym (met-tells e k)
 
-    pub goes_on : (j : Kept) → x ≡ Nothing j → to_give L c line j (at + s.bytes) ≡ to_give L c line k at
+    pub goes_on : (j : Kept) → x ≡ Ok (Nothing j) → to_give L c line j (at + s.bytes) ≡ to_give L c line k at
     goes_on j p =
         ap (λ (place : ℕ). next_of (walk_from R c place (drop (at + s.bytes) line)) j (at + s.bytes)) (kept-behind k s.answer s.bytes j (sym q ∙ p))
-        ∙ gives (Nothing j) p
+        ∙ gives (Ok (Nothing j)) p
 
-    pub gives_one : (r : Row) (j : Kept) → x ≡ One r j → OneRow r j (at + s.bytes) ≡ to_give L c line k at
-    gives_one r j p = gives (One r j) p
+    pub gives_one : (r : Row) (j : Kept) → x ≡ Ok (One r j) → Ok (OneRow r j (at + s.bytes)) ≡ to_give L c line k at
+    gives_one r j p = gives (Ok (One r j)) p
 
-    pub gives-two : (r r' : Row) (j : Kept) → x ≡ Two r r' j → TwoRows r r' j (at + s.bytes) ≡ to_give L c line k at
-    gives-two r r' j p = gives (Two r r' j) p
+    pub gives-two : (r r' : Row) (j : Kept) → x ≡ Ok (Two r r' j) → Ok (TwoRows r r' j (at + s.bytes)) ≡ to_give L c line k at
+    gives-two r r' j p = gives (Ok (Two r r' j)) p
 
-    pub gives-full : x ≡ Full → NoMore ≡ to_give L c line k at
-    gives-full p = gives Full p
+    pub gives-full : (z : RowsError) → x ≡ Err z → Err z ≡ to_give L c line k at
+    gives-full Full p = gives (Err Full) p

@@ -1,6 +1,5 @@
 -- Rows of answers while a line comes in pieces: what one move more gives.
-use Rattle.std.specs.Prelude.{ℕ, ◌+◌, Bool, true, false, cond, ◌&&◌, List, [], ◌∷◌, eqb, leb}
-use Rattle.digits.specs.declared.halves.Place.TheVariants.{None}
+use Rattle.std.specs.Prelude.{ℕ, ◌+◌, Bool, true, false, cond, ◌&&◌, List, [], ◌∷◌, eqb, leb, None, Ok, Err, Result}
 use Rattle.answers.specs.Answers.{answer_number}
 use Rattle.answers.specs.declared.Answer.{Answer}
 use Rattle.answers.specs.declared.Answer.TheVariants.{NoFrame}
@@ -10,8 +9,10 @@ use Rattle.walk.specs.declared.rows.Row.{Row}
 use Rattle.walk.specs.declared.rows.Kept.{Kept}
 use Rattle.walk.specs.declared.rows.Told.{Told}
 use Rattle.walk.specs.declared.rows.Next.{Next}
-use Rattle.walk.specs.declared.rows.Next.TheVariants.{OneRow, TwoRows, Stopped, NoMore}
-use Rattle.walk.specs.declared.rows.Told.TheVariants.{Nothing, One, Two, Full}
+use Rattle.walk.specs.declared.rows.Next.TheVariants.{OneRow, TwoRows, Stopped}
+use Rattle.walk.specs.declared.rows.Told.TheVariants.{Nothing, One, Two}
+use Rattle.walk.specs.declared.rows.RowsError.TheVariants.{Full}
+use Rattle.walk.specs.declared.rows.RowsError.{RowsError}
 
 -- a row as a move, and a move as a row
 abbrev pub move_of : Row → Move Answer
@@ -43,24 +44,24 @@ abbrev pub holds : Kept → ℕ → Bool
 holds k n = leb (k.at + n) largest && leb (k.skipped.bytes + n) largest
 
 -- what one move more gives
-unfoldable pub told_of : Kept → Answer → ℕ → Told
+unfoldable pub told_of : Kept → Answer → ℕ → Result Told RowsError
 told_of k a n =
     let r : Row = record { at = k.at; bytes = n; answer = a } in
     cond (holds k n)
     (cond (is_skipped (answer_number a))
-    (Nothing (record { at = k.at + n; skipped = joined_row k.skipped r }))
-    (framed_row k.skipped r (k.at + n)))
-    Full
+    (Ok (Nothing (record { at = k.at + n; skipped = joined_row k.skipped r })))
+    (Ok (framed_row k.skipped r (k.at + n))))
+    (Err Full)
 
 -- what a call hands on of some moves: the next rows with the place behind them, or where the walk stopped
-abbrev pub on_told : Told → ℕ → (Kept → ℕ → Next) → Next
-on_told (Nothing k) at more = more k at
-on_told (One r k) at more = OneRow r k at
-on_told (Two s r k) at more = TwoRows s r k at
-on_told Full at more = NoMore
+abbrev pub on_told : Result Told RowsError → ℕ → (Kept → ℕ → Result Next RowsError) → Result Next RowsError
+on_told (Ok (Nothing k)) at more = more k at
+on_told (Ok (One r k)) at more = Ok (OneRow r k at)
+on_told (Ok (Two s r k)) at more = Ok (TwoRows s r k at)
+on_told (Err Full) at more = Err Full
 
-abbrev pub next_of : List (Move Answer) → Kept → ℕ → Next
-next_of [] k at = Stopped k at
+abbrev pub next_of : List (Move Answer) → Kept → ℕ → Result Next RowsError
+next_of [] k at = Ok (Stopped k at)
 next_of (m ∷ ms) k at = on_told (told_of k m.said m.bytes) (at + m.bytes) (next_of ms)
 
 -- among some moves up to the next row stands one that the numbers cannot hold
@@ -73,14 +74,14 @@ passes (m ∷ ms) k =
     true
 
 -- the answer number of each case: 16 where the place would pass the largest number, 0 where nothing is refused
-abbrev pub told_number : Told → ℕ
-told_number (Nothing k) = 0
-told_number (One r k) = 0
-told_number (Two s r k) = 0
-told_number Full = 16
+abbrev pub told_number : Result Told RowsError → ℕ
+told_number (Ok (Nothing k)) = 0
+told_number (Ok (One r k)) = 0
+told_number (Ok (Two s r k)) = 0
+told_number (Err Full) = 16
 
-abbrev pub next_number : Next → ℕ
-next_number (OneRow r k at) = 0
-next_number (TwoRows s r k at) = 0
-next_number (Stopped k at) = 0
-next_number NoMore = 16
+abbrev pub next_number : Result Next RowsError → ℕ
+next_number (Ok (OneRow r k at)) = 0
+next_number (Ok (TwoRows s r k at)) = 0
+next_number (Ok (Stopped k at)) = 0
+next_number (Err Full) = 16

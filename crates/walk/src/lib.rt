@@ -1,7 +1,6 @@
 // Walking a line, whatever reading it takes: what an answer does to the place, to the tally and to the rows.
 #![tactic(auto)]
 
-pub mod moves;
 pub mod past;
 pub mod rows;
 pub mod stretch;

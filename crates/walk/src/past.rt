@@ -4,22 +4,14 @@ ghost use Rattle.walk.specs.Answers.{past_of};
 
 use answers::Answer;
 
-// The bytes that an answer moves past where bytes are left, or 0 where the walk stops.
+// The bytes that an answer moves past where bytes are left, or 0 where the walk stops. No `Option`: that is how far it moves there.
 pub fn past(answer: Answer, closed: bool) -> usize
     ensures { result ≡ past_of closed answer }
 {
-    let n = answer.number();
-    if n == 2 {
-        if closed {
-            return 1;
-        }
-        return 0;
+    match answer.number() {
+        2 if closed => 1,
+        2 => 0,
+        0 | 6.. => answer.length(),
+        _ => 1,
     }
-    if n == 0 {
-        return answer.length();
-    }
-    if n >= 6 {
-        return answer.length();
-    }
-    1
 }

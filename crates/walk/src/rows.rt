@@ -4,7 +4,6 @@ ghost use Rattle.walk.specs.Tally.{largest};
 ghost use Rattle.walk.specs.Told.{no_row, fresh, joined_row, framed_row, told_of};
 
 use answers::Answer;
-use digits::halves::Place;
 
 // A move of a walk, or skipped bytes next to each other with the first one's reason.
 #[derive(Clone, Copy)]
@@ -14,7 +13,8 @@ pub struct Row {
     pub answer: Answer,
 }
 
-// What a walk keeps from the pieces before: its place, and the skipped bytes that no row has told yet, none if there are 0.
+// What a walk keeps from the pieces before: its place, and the skipped bytes that no row has told yet, none if there are 0. No `Option`: whether
+// the numbers can hold a move is asked of those 0 as of any.
 #[derive(Clone, Copy)]
 pub struct Kept {
     pub at: u64,
@@ -30,8 +30,6 @@ pub enum Told {
     One(Row, Kept),
     // the row of the kept skipped bytes, then the move's own
     Two(Row, Row, Kept),
-    // 16: the place would pass the largest number
-    Full,
 }
 
 // What some moves give next, with the place on the line behind them.
@@ -41,8 +39,13 @@ pub enum Next {
     TwoRows(Row, Row, Kept, usize),
     // no row: the walk stopped here
     Stopped(Kept, usize),
-    // 16
-    NoMore,
+}
+
+// Why there are no rows.
+#[derive(Clone, Copy)]
+pub enum RowsError {
+    // 16: the place would pass the largest number
+    Full,
 }
 
 // No skipped bytes.
@@ -52,7 +55,7 @@ fn no_row() -> Row
     Row {
         at: 0,
         bytes: 0,
-        answer: Answer::NoFrame(1, Place::None),
+        answer: Answer::NoFrame(1, None),
     }
 }
 
@@ -68,31 +71,23 @@ impl Kept {
     }
 
     // With one move more: what was said at its place, and the bytes that it takes.
-    pub fn told(self, answer: Answer, bytes: u64) -> Told
+    #[tactic(auto, unfolding(crate::specs::Told::told_of))]
+    pub fn told(self, answer: Answer, bytes: u64) -> Result<Told, RowsError>
         ensures { result ≡ told_of self answer bytes }
     {
-        let at = self.at;
-        let skipped = self.skipped;
+        let Kept { at, skipped } = self;
         let most = u64::MAX - bytes;
-        if most < at {
-            return Told::Full;
-        }
-        if most < skipped.bytes {
-            return Told::Full;
+        if most < at || most < skipped.bytes {
+            return Err(RowsError::Full);
         }
         let row = Row { at, bytes, answer };
-        let n = answer.number();
-        if n >= 6 {
-            return framed(skipped, row, at + bytes);
+        match answer.number() {
+            0 | 6.. => Ok(framed(skipped, row, at + bytes)),
+            _ => Ok(Told::Nothing(Kept {
+                at: at + bytes,
+                skipped: joined(skipped, row),
+            })),
         }
-        if n == 0 {
-            return framed(skipped, row, at + bytes);
-        }
-        let kept = Kept {
-            at: at + bytes,
-            skipped: joined(skipped, row),
-        };
-        Told::Nothing(kept)
     }
 }
 
@@ -104,11 +99,10 @@ fn joined(skipped: Row, row: Row) -> Row
     if skipped.bytes == 0 {
         return row;
     }
-    let answer = skipped.answer;
     Row {
         at: skipped.at,
         bytes: skipped.bytes + row.bytes,
-        answer,
+        answer: skipped.answer,
     }
 }
 

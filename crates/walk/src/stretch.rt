@@ -4,7 +4,7 @@ ghost use Rattle.walk.specs.Noise.{noise_length};
 
 use answers::Answer;
 
-// What a walk meets at a place: an answer, and the bytes that it moves past, 0 where the walk stops.
+// What a walk meets at a place: an answer, and the bytes that it moves past, 0 where the walk stops. No `Option`: that is how far it moves there.
 #[derive(Clone, Copy)]
 pub struct Stretch {
     pub answer: Answer,
@@ -15,12 +15,13 @@ pub struct Stretch {
 pub fn noise(line: &[u8], at: usize) -> usize
     ensures { result ≡ noise_length (drop at line.now) }
 {
-    let mut i = at;
-    while i < line.len() {
-        if line[i] == 27 {
-            return i - at;
-        }
-        i += 1;
+    if line.len() <= at {
+        return 0;
     }
-    i - at
+    for (i, &b) in line[at..].iter().enumerate() {
+        if b == 27 {
+            return i;
+        }
+    }
+    line.len() - at
 }

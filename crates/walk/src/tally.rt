@@ -1,6 +1,6 @@
 // A tally of a line's bytes, by value.
-ghost use Rattle.std.specs.Prelude.{◌≡◌, ◌+◌, min};
-ghost use Rattle.walk.specs.Tally.{figures_only, no_bytes, has_room, moved_on, capped, row_figures, largest};
+ghost use Rattle.std.specs.Prelude.{◌≡◌};
+ghost use Rattle.walk.specs.Tally.{figures_only, no_bytes, has_room, moved_on, capped, row_figures};
 
 use answers::Answer;
 
@@ -15,21 +15,12 @@ pub struct Tally {
     pub waiting: u64,
 }
 
-// A tally behind a walk: 0 and moved on, or 16 and as it came.
+// A tally behind a walk: 0 and moved on, or 16 and as it came. No Result: `trivsome_walk` and `trivsome_derivatives_walk` answer the number and
+// hand the tally back in both cases.
 #[derive(Clone, Copy)]
 pub struct Tallied {
     pub tally: Tally,
     pub answer: u8,
-}
-
-// A sum, or the largest number if it passes that.
-fn sum(a: u64, b: u64) -> u64
-    ensures { result ≡ min (a + b) largest }
-{
-    if a <= u64::MAX - b {
-        return a + b;
-    }
-    u64::MAX
 }
 
 // Figures with nothing that waits.
@@ -57,13 +48,7 @@ impl Tally {
         ensures { result ≡ has_room self n }
     {
         let most = u64::MAX - n;
-        if most < self.accepted {
-            return false;
-        }
-        if most < self.refused {
-            return false;
-        }
-        self.skipped <= most
+        self.accepted <= most && self.refused <= most && self.skipped <= most
     }
 
     // Moved on by the figures of a walk.
@@ -71,9 +56,9 @@ impl Tally {
         ensures { result ≡ capped (moved_on self w) }
     {
         Tally {
-            accepted: sum(self.accepted, w.accepted),
-            refused: sum(self.refused, w.refused),
-            skipped: sum(self.skipped, w.skipped),
+            accepted: self.accepted.saturating_add(w.accepted),
+            refused: self.refused.saturating_add(w.refused),
+            skipped: self.skipped.saturating_add(w.skipped),
             waiting: w.waiting,
         }
     }
@@ -82,14 +67,11 @@ impl Tally {
     pub fn counted(self, answer: Answer, bytes: u64) -> Tally
         ensures { result ≡ capped (moved_on self (row_figures answer bytes)) }
     {
-        let n = answer.number();
-        let t = self;
-        if n == 0 {
-            return t.plus(figures(bytes, 0, 0));
-        }
-        if n >= 6 {
-            return t.plus(figures(0, bytes, 0));
-        }
-        t.plus(figures(0, 0, bytes))
+        let row = match answer.number() {
+            0 => figures(bytes, 0, 0),
+            6.. => figures(0, bytes, 0),
+            _ => figures(0, 0, bytes),
+        };
+        self.plus(row)
     }
 }

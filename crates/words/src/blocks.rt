@@ -5,7 +5,8 @@ ghost use Rattle.words.specs.Blocks.{block_of, no_block, block_at};
 
 use crate::loads::{eight, four, two};
 
-// What some bytes hold: whether every half is a digit, and the numbers that the first bytes and the last four give.
+// What some bytes hold: whether every half is a digit, and the numbers that the first bytes and the last four give. No `Option` of the
+// numbers: what this promises has them of bad bytes too, and may not change.
 #[derive(Clone, Copy)]
 pub struct Block {
     pub good: bool,
@@ -71,44 +72,33 @@ pub(crate) fn eight_in(s: &[u8], at: usize) -> Block
     digits(eight(s, at))
 }
 
-// Four bytes: all of them are the last four.
+// Four bytes: all of them are the last four. This call and the two behind it are three: each width has its own loads, and one over a const
+// width would choose among them.
 pub fn four_at(s: &[u8], at: usize) -> Block
     ensures { result ≡ block_at 4 0 s.now at }
 {
-    if s.len() < 4 {
+    if s.len() < 4 || s.len() - 4 < at {
         return none();
     }
-    if at <= s.len() - 4 {
-        four_in(s, at)
-    } else {
-        none()
-    }
+    four_in(s, at)
 }
 
 // Six bytes: two, and the last four.
 pub fn six_at(s: &[u8], at: usize) -> Block
     ensures { result ≡ block_at 6 2 s.now at }
 {
-    if s.len() < 6 {
+    if s.len() < 6 || s.len() - 6 < at {
         return none();
     }
-    if at <= s.len() - 6 {
-        six_in(s, at)
-    } else {
-        none()
-    }
+    six_in(s, at)
 }
 
 // Eight bytes: four, and the last four.
 pub fn eight_at(s: &[u8], at: usize) -> Block
     ensures { result ≡ block_at 8 4 s.now at }
 {
-    if s.len() < 8 {
+    if s.len() < 8 || s.len() - 8 < at {
         return none();
     }
-    if at <= s.len() - 8 {
-        eight_in(s, at)
-    } else {
-        none()
-    }
+    eight_in(s, at)
 }

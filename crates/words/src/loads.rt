@@ -1,20 +1,14 @@
-// Bytes at a place loaded as one number, the first byte lowest; each width is one load when it is compiled.
+// Bytes at a place loaded as one number, the first byte lowest; each width is one load when it is compiled. Not by `from_le_bytes`, which
+// takes an array and no part of a slice: it would be built of the same bytes first.
 ghost use Rattle.std.specs.Prelude.{◌≡◌, ◌+◌, ◌≤◌, ◌<◌, length, take, drop};
 ghost use Rattle.words.specs.Words.{bytes};
-
-// A byte as a number of 64 bits.
-pub(crate) fn wide(b: u8) -> u64
-    ensures { (result ≡ b) × (result < 256) }
-{
-    b as u64
-}
 
 // Two bytes.
 pub(crate) fn two(s: &[u8], at: usize) -> u64
     requires { at + 2 ≤ length s.now }
     ensures { (result < 65536) × (bytes 2 result ≡ take 2 (drop at s.now)) }
 {
-    wide(s[at]) + wide(s[at + 1]) * 256
+    s[at] as u64 + s[at + 1] as u64 * 256
 }
 
 // Four bytes.

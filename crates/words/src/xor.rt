@@ -4,9 +4,10 @@ ghost use Rattle.words.specs.Words.{bytes};
 ghost use Rattle.words.specs.Xor.{xor_of};
 ghost use Rattle.words.specs.Steps.{gathered};
 
-use crate::loads::{eight, four, two, wide};
+use crate::loads::{eight, four, two};
 
-// The four bytes after the whole eights, where there are so many.
+// The four bytes after the whole eights, where there are so many. Here and below each width has its own load, so one function of any
+// width would choose among them by its width, and be no plainer.
 fn last_four(s: &[u8], x: u64) -> u64
     ensures { let l = s.now in
         gathered result (length l - length l % 4) l ≡ gathered x (length l - length l % 8) l }
@@ -37,7 +38,7 @@ fn last_one(s: &[u8], x: u64) -> u64
 {
     let left = s.len() % 2;
     if 1 <= left {
-        return x ^ wide(s[s.len() - left]);
+        return x ^ s[s.len() - left] as u64;
     }
     x
 }
@@ -56,12 +57,9 @@ fn fold(x: u64) -> u8
 pub fn xor_of(s: &[u8]) -> u8
     ensures { result ≡ xor_of s.now }
 {
-    let n = s.len();
     let mut x: u64 = 0;
-    let mut i = 0;
-    while 8 <= n - i {
-        x = x ^ eight(s, i);
-        i += 8;
+    for k in 0..s.len() / 8 {
+        x ^= eight(s, 8 * k);
     }
     fold(last_one(s, last_two(s, last_four(s, x))))
 }

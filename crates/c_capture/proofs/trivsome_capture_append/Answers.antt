@@ -1,5 +1,5 @@
--- `trivsome_capture_append` meets its contract.
-use mathlib.Core.Path.{ap, ◌∙◌}
+-- `trivsome_capture_append` meets its contract: the outcome fits.
+use mathlib.Core.Path.{ap}
 use native.Mathlib.Omega.{arith}
 use Rattle.c_capture.specs.Outcomes.{taken_outcome}
 use Rattle.c_capture.proofs.RangeLaws.{append-fits}
@@ -9,7 +9,3 @@ pub taken_outcome-requires : goal.taken_outcome-requires
 taken_outcome-requires c =
     let a = c.args in
     omega (arith, ap taken_outcome c.append.ensures.value, append-fits a.capture.now a.payload.now)
-
-pub returns : goal.returns
-returns c =
-    record { value = c.taken_outcome.ensures ∙ ap taken_outcome c.append.ensures.value; capture_after = c.append.ensures.capture_after }

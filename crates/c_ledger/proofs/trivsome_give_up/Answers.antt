@@ -3,7 +3,8 @@ use mathlib.Core.Path.{◌≡◌, ap, ◌∙◌}
 use lib.ListN.{length}
 use Rattle.ledger.specs.Ends.{places}
 use Rattle.ledger.specs.Calls.{ledger_of}
-use Rattle.ledger.specs.declared.GaveUp.{GaveUp}
+use Rattle.ledger.specs.declared.Run.{Run}
+use Rattle.ledger.specs.declared.Answered.{Answered}
 use Rattle.c_ledger.specs.Outcomes.{run_outcome}
 use Rattle.ledger_give_up.proofs.LessLaws.{lent-whole}
 use borrow.Author.Rules.{rules}
@@ -14,6 +15,6 @@ returns c =
     let n : length c.args.ends.now ≡ places = search (rules, c.well_formed.0) in
     let e = c.give_up_lent.ensures ∙ lent-whole (ledger_of c.args.ends.now c.args.floor.now c.args.given.now) n in
     record {
-      value = c.run_outcome.ensures ∙ ap (λ (a : GaveUp). run_outcome a.answer) e;
-      given_after = ap (λ (a : GaveUp). a.ledger) e;
+      value = c.run_outcome.ensures ∙ ap (λ (a : Answered Run). run_outcome a.answer) e;
+      given_after = ap (λ (a : Answered Run). a.ledger) e;
     }

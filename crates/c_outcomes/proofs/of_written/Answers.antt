@@ -3,5 +3,5 @@ use mathlib.Core.Path.{sym, ap, ◌∙◌}
 use Rattle.c_outcomes.specs.Outcomes.{write_outcome}
 use Rattle.c_outcomes.proofs.of_written.Goals as goal
 
-pub returns-in-Done : goal.returns-in-Done
-returns-in-Done c = c.packed.ensures ∙ ap write_outcome (sym c.in-Done.is)
+pub returns-in-Ok : goal.returns-in-Ok
+returns-in-Ok c = c.packed.ensures ∙ ap write_outcome (sym c.in-Ok.is)

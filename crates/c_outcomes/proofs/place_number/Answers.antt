@@ -3,5 +3,5 @@ use mathlib.Core.Path.{sym, ap}
 use Rattle.c_outcomes.specs.Outcomes.{place_number}
 use Rattle.c_outcomes.proofs.place_number.Goals as goal
 
-pub returns-in-Half : goal.returns-in-Half
-returns-in-Half c = ap place_number (sym c.in-Half.is)
+pub returns-in-Some : goal.returns-in-Some
+returns-in-Some c = ap place_number (sym c.in-Some.is)

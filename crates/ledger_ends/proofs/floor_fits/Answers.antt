@@ -1,5 +1,8 @@
 -- `floor_fits` meets its contract: a law for each answer.
+use Prim.Native.Nat.{◌%◌}
 use native.Mathlib.Omega.{arith}
+use mathlib.Core.Path.{◌∙◌}
+use borrow.Author.Tests.{ne_eqb}
 use Rattle.ledger.proofs.EndLaws.{from-length}
 use Rattle.ledger_ends.proofs.SeenLaws.{none-given, too-many-given, lowest-missing, lowest-end}
 use Rattle.ledger_ends.proofs.floor_fits.Goals as goal
@@ -14,19 +17,21 @@ returns-then-floor-given c =
     let a = c.args in
     too-many-given a.floor a.given a.ends.now (omega (arith, c.if-given-eq0.false)) c.if-floor-given.true
 
-pub in_use-count-requires : goal.in_use-count-requires
-in_use-count-requires c = c.requires.few
+pub offset_bounds-ends-count : goal.offset_bounds-ends-count
+offset_bounds-ends-count c = omega (arith, c.in_use-count.ensures, from-length 1 c.args.ends.now, c.requires.few)
 
-pub returns-then-count-eq0 : goal.returns-then-count-eq0
-returns-then-count-eq0 c =
-    let count = c.in_use-count in
-    lowest-missing c.args.floor c.args.given c.args.ends.now (omega (arith, c.if-given-eq0.false)) c.requires count.result count.ensures c.if-count-eq0.true
+pub bounds-ends-count : goal.bounds-ends-count
+bounds-ends-count c = omega (arith, c.in_use-count.ensures, from-length 1 c.args.ends.now, c.if-count-eq1.true)
 
-pub bounds-ends-end : goal.bounds-ends-end
-bounds-ends-end c = omega (arith, c.in_use-count.ensures, from-length 1 c.args.ends.now, c.if-count-eq0.false)
-
-pub returns : goal.returns
-returns c =
+pub returns-then-count-eq1 : goal.returns-then-count-eq1
+returns-then-count-eq1 c =
     let count = c.in_use-count in
     lowest-end c.args.floor c.args.given c.args.ends.now (omega (arith, c.if-given-eq0.false)) c.requires count.result count.ensures
-    c.if-floor-given.false (omega (arith, c.if-count-eq0.false))
+    c.if-floor-given.false c.if-count-eq1.true
+
+pub returns-else-count-eq1 : goal.returns-else-count-eq1
+returns-else-count-eq1 c =
+    let count = c.in_use-count in
+    ne_eqb (count.result % 2) 1 c.if-count-eq1.false
+    ∙ lowest-missing c.args.floor c.args.given c.args.ends.now (omega (arith, c.if-given-eq0.false)) c.requires count.result count.ensures
+    (omega (arith, c.if-count-eq1.false))

@@ -18,8 +18,8 @@ returns-then-n-eq0 c =
       found = ap (λ (t : List ℕ). found_in c.args.n t) (take_all 129 es (omega (arith, c.requires)));
     }
 
-pub returns : goal.returns
-returns c =
+pub returns-else-n-eq0 : goal.returns-else-n-eq0
+returns-else-n-eq0 c =
     let a = c.args in
     let used = c.used in
     record {

@@ -2,7 +2,8 @@
 use mathlib.Core.Path.{sym, ap, ◌∙◌}
 use Prim.Native.Nat.{ℕ, ◌-◌}
 use lib.ListN.{length}
-use Rattle.stock_board.specs.declared.InUse.{InUse}
+use Rattle.std.specs.Prelude.{Result, Ok}
+use Rattle.stock_board.specs.declared.BoardError.{BoardError}
 use Rattle.stock_board_flat.proofs.CallLaws.{used-not, used-is}
 use Rattle.stock_board_flat.proofs.in_use.Goals as goal
 
@@ -11,5 +12,5 @@ returns-then-not-is_whole c = used-not _ (sym c.is_whole.ensures ∙ c.if-not-is
 
 pub returns : goal.returns
 returns c =
-    ap (λ (n : ℕ). InUse.Rows (length c.args.heads.now - n)) c.count_of.ensures.0
+    ap {B = Result ℕ BoardError} (λ (n : ℕ). Ok (length c.args.heads.now - n)) c.count_of.ensures.0
     ∙ used-is _ (sym c.is_whole.ensures ∙ c.if-not-is_whole.false)

@@ -1,5 +1,7 @@
 -- `read` meets its contract: at each return, the check that the tests before it tell.
 use mathlib.Core.Path.{refl, ◌∙◌, sym}
+use lib.ListN.{replicate}
+use Rattle.stock_notices.specs.Notices.{room}
 use native.Mathlib.Omega.{arith}
 use Rattle.stock_notices_read.proofs.ReadSteps.{check-short, check-long, check-high, check-low, check-unknown, check-none, read-refused, read-digit, read-accepted}
 use Rattle.stock_notices_read.proofs.read.Goals as goal
@@ -35,7 +37,7 @@ returns-then-not-known c =
 pub returns : goal.returns
 returns c =
     let a = c.args in
-    read-accepted a.seq a.body.now c.zeros-text.result c.put_bytes.new.buf (omega arith) (omega arith)
+    read-accepted a.seq a.body.now (replicate room 0) c.put_bytes.new.buf (omega arith) (omega arith)
     (check-none a.body.now (omega arith) (omega arith) (omega arith) (omega arith)
     (sym c.known.ensures ∙ c.if-not-known.false))
-    c.zeros-text.ensures c.put_bytes.ensures
+    refl c.put_bytes.ensures

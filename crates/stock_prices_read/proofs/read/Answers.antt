@@ -6,7 +6,7 @@ use native.Mathlib.Omega.{arith}
 use lib.ListN.{length, get_or}
 use lib.Dec.{leb}
 use borrow.Author.Rules.{rules}
-use borrow.Author.Tests.{not-true, not-false, leb-true}
+use borrow.Author.Tests.{leb-true}
 use Rattle.digits.specs.Packed.{good_byte}
 use Rattle.digits.proofs.Bools.{and_left, and_right}
 use Rattle.layout.specs.Checks.{first_fail}
@@ -47,21 +47,20 @@ overflow_cast-n c =
     let low : get_or c.args.body.now 0 0 % 16 ≤ 9 = leb-true (get_or c.args.body.now 0 0 % 16) 9 (and_right (leb (get_or c.args.body.now 0 0 / 16) 9) _ good) in
     search (rules, high, low)
 
-pub returns-then-not-f : goal.returns-then-not-f
-returns-then-not-f c =
+pub returns-in_default : goal.returns-in_default
+returns-in_default c =
     let long : length c.args.body.now ≡ 361 = c.if-body-ne-BODY.false in
     let good : good_byte (get_or c.args.body.now 0 0) ≡ true = sym c.good_byte.ensures ∙ c.if-not-good_byte.false in
-    c.no_prices-then-not-f.ensures ∙ ap without_prices c.bad_answer-then-not-f.ensures
+    c.no_prices-in_default.ensures ∙ ap without_prices c.bad_answer-in_default.ensures
     ∙ digit-as c.args.seq c.args.body.now long
-    (bad-slots c.args.body.now long good (sym c.slots_in-f.ensures.0 ∙ not-true _ c.if-not-f.true))
+    (bad-slots c.args.body.now long good (c.in_default.ensures))
 
 pub returns-then-check-gt0 : goal.returns-then-check-gt0
 returns-then-check-gt0 c =
     let long : length c.args.body.now ≡ 361 = c.if-body-ne-BODY.false in
     let good : good_byte (get_or c.args.body.now 0 0) ≡ true = sym c.good_byte.ensures ∙ c.if-not-good_byte.false in
-    let slots-good : c.slots_in-f.result.good ≡ true = not-false _ c.if-not-f.false in
-    let fails : first_fail (body_checks twelve c.args.body.now) ≡ c.check_of-check.result = let told = c.slots_in-f.ensures.1 slots-good in check-told c.args.body.now long good (sym c.slots_in-f.ensures.0 ∙ slots-good) c.slots_in-f.result.timed c.slots_in-f.result.ruled told.1 told.2 ∙ sym c.check_of-check.ensures in
-    let f = c.slots_in-f.result in
+    let fails : first_fail (body_checks twelve c.args.body.now) ≡ c.check_of-check.result = let told = c.in-Some.ensures in check-told c.args.body.now long good told.0 c.in-Some.f.timed c.in-Some.f.ruled told.2 told.3 ∙ sym c.check_of-check.ensures in
+    let f = c.in-Some.f in
     let n = get_or c.args.body.now 0 0 / 16 * 10 + get_or c.args.body.now 0 0 % 16 in
     let h : 11 < c.check_of-check.result = rw c.check_of-check.ensures (check-high f.timed n f.ruled (rw (← c.check_of-check.ensures) c.if-check-gt0.true)) in
     refused_as c.args.seq c.args.body.now c.check_of-check.result 374 (omega (arith, h)) (λ z. omega (arith, h, z)) (omega (arith, long)) fails c.refused-then-check-gt0.result c.refused-then-check-gt0.ensures
@@ -69,9 +68,8 @@ returns-then-check-gt0 c =
 pub returns : goal.returns
 returns c =
     let long : length c.args.body.now ≡ 361 = c.if-body-ne-BODY.false in
-    let slots-good : c.slots_in-f.result.good ≡ true = not-false _ c.if-not-f.false in
     let good : good_byte (get_or c.args.body.now 0 0) ≡ true = sym c.good_byte.ensures ∙ c.if-not-good_byte.false in
-    let fails : first_fail (body_checks twelve c.args.body.now) ≡ c.check_of-check.result = let told = c.slots_in-f.ensures.1 slots-good in check-told c.args.body.now long good (sym c.slots_in-f.ensures.0 ∙ slots-good) c.slots_in-f.result.timed c.slots_in-f.result.ruled told.1 told.2 ∙ sym c.check_of-check.ensures in
+    let fails : first_fail (body_checks twelve c.args.body.now) ≡ c.check_of-check.result = let told = c.in-Some.ensures in check-told c.args.body.now long good told.0 c.in-Some.f.timed c.in-Some.f.ruled told.2 told.3 ∙ sym c.check_of-check.ensures in
     let z : c.check_of-check.result ≡ 0 = omega (arith, c.if-check-gt0.false) in
     c.accepted.ensures
-    ∙ accepted c.args.body.now long c.args.seq c.slots_in-f.result.slots (c.slots_in-f.ensures.1 slots-good).0 (fails ∙ z)
+    ∙ accepted c.args.body.now long c.args.seq c.in-Some.f.slots c.in-Some.ensures.1 (fails ∙ z)

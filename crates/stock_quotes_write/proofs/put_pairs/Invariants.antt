@@ -1,5 +1,4 @@
 -- `put_pairs` meets its contract. The loop's invariant: the first i pairs stand at their place.
-use Prim.Native.Nat.{◌-◌, ◌≤◌}
 use mathlib.Core.Path.{◌≡◌}
 use lib.ListN.{take}
 use lib.Seq.{sets}
@@ -8,7 +7,4 @@ use Rattle.stock_quotes.specs.Quotes.{pair_cells, flat}
 use Rattle.stock_quotes_write.proofs.put_pairs.Given as goal
 
 abbrev pub invariant-loop-i : goal.invariant-loop-i
-invariant-loop-i l = (l.i ≤ l.count) × (l.buf ≡ sets l.initial.buf l.at (encode (pair_cells l.i) (flat (take l.i l.pairs))))
-
-abbrev pub decreases-loop-i : goal.decreases-loop-i
-decreases-loop-i l = l.count - l.i
+invariant-loop-i l = l.buf ≡ sets l.initial.buf l.at (encode (pair_cells l.i) (flat (take l.i l.pairs)))

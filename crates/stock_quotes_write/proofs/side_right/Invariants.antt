@@ -7,6 +7,3 @@ use Rattle.stock_quotes_write.proofs.side_right.Given as goal
 
 abbrev pub invariant-loop-i : goal.invariant-loop-i
 invariant-loop-i l = part_right (l.count - l.i) (drop l.i l.pairs) ≡ part_right l.count l.pairs
-
-abbrev pub decreases-loop-i : goal.decreases-loop-i
-decreases-loop-i l = 5 - l.i

@@ -1,39 +1,22 @@
--- `Pair::from_digits` meets its contract: outside, a first byte above 9, a pair, a bad digit.
+-- `Pair::from_digits` meets its contract: outside or a first byte above 9, and a pair.
 use Prim.Native.Nat.{◌+◌}
-use borrow.Author.Rules.{rules}
 use mathlib.Core.Path.{sym, ◌∙◌}
 use native.Mathlib.Omega.{arith}
 use Rattle.digits.proofs.Places.{inside, outside}
-use Rattle.amounts.proofs.Readings.{pair-over, pair-bad, pair_fits, pair_is}
+use Rattle.amounts.proofs.Readings.{pair-over, pair_is}
 use Rattle.amounts.proofs.Pair.from_digits.Goals as goal
+use Rattle.amounts.proofs.Pair.from_digits.Goals.{then-s-lt9-via-then-s-lt9, then-s-lt9-via-else-s-lt9+then-s-at, then-s-lt9-via-else-s-lt9+else-s-at+then-s-at-gt-NINE}
 
 pub returns-then-s-lt9 : goal.returns-then-s-lt9
 returns-then-s-lt9 c =
     let a = c.args in
-    sym (outside 9 a.at a.s.now _ _ (search rules))
-
-pub returns-then-at-s : goal.returns-then-at-s
-returns-then-at-s c =
-    let a = c.args in
-    sym (outside 9 a.at a.s.now _ _ (search rules))
-
-pub returns-then-b-gt-NINE : goal.returns-then-b-gt-NINE
-returns-then-b-gt-NINE c =
-    let a = c.args in
-    pair-over a.at a.s.now (omega arith) c.if-b-gt-NINE.true
-
-pub overflow_add-result : goal.overflow_add-result
-overflow_add-result c =
-    let a = c.args in
-    let l = pair_fits a.at a.s.now (omega arith) (c.eight_at-h.ensures ∙ inside 8 (a.at + 1) a.s.now _ _ (omega arith)) c.if-h.true in
-    omega arith
+    elim c.then-s-lt9.branch [
+      | then-s-lt9-via-then-s-lt9 w ↦ sym (outside 9 a.at a.s.now _ _ (omega arith))
+      | then-s-lt9-via-else-s-lt9+then-s-at w ↦ sym (outside 9 a.at a.s.now _ _ (omega arith))
+      | then-s-lt9-via-else-s-lt9+else-s-at+then-s-at-gt-NINE w ↦ pair-over a.at a.s.now (omega arith) w.if-s-at-gt-NINE.true
+    ]
 
 pub returns-then-h : goal.returns-then-h
 returns-then-h c =
     let a = c.args in
-    pair_is a.at a.s.now (omega arith) (c.eight_at-h.ensures ∙ inside 8 (a.at + 1) a.s.now _ _ (omega arith)) c.if-b-gt-NINE.false c.if-h.true
-
-pub returns-else-h : goal.returns-else-h
-returns-else-h c =
-    let a = c.args in
-    pair-bad a.at a.s.now (omega arith) (c.eight_at-h.ensures ∙ inside 8 (a.at + 1) a.s.now _ _ (omega arith)) c.if-h.false
+    pair_is a.at a.s.now (omega arith) (c.eight_at-h.ensures ∙ inside 8 (a.at + 1) a.s.now _ _ (omega arith)) c.if-s-at-gt-NINE.false c.if-h.true

@@ -5,4 +5,4 @@ use Rattle.capture.proofs.blocks.used_bytes.Goals as goal
 
 pub returns : goal.returns
 unfolding used
-returns c = omega (arith, c.four.ensures)
+returns c = omega (arith, c.from.ensures, c.from_be_bytes.ensures)

@@ -1,13 +1,9 @@
--- `reading::finished` meets its contract: by what the two searches find.
-use Rattle.capture.proofs.CallLaws.{held-refused, held-bad, held-blocks}
-use native.Mathlib.Omega.{arith}
+-- `reading::finished` meets its contract, where memory has another size.
+use Rattle.std.proofs.lemmas.Result.{err_from_is_err_and}
+use Rattle.capture.proofs.CallLaws.{held-refused}
 use Rattle.capture.proofs.reading.finished.Goals as goal
 
-pub returns-then-capture-ne-SIZE : goal.returns-then-capture-ne-SIZE
-returns-then-capture-ne-SIZE c = held-refused c.args.capture.now (λ e. omega (arith, e))
-
-pub returns-then-p-ne0 : goal.returns-then-p-ne0
-returns-then-p-ne0 c = held-bad c.args.capture.now (omega arith) c.sound_first-n.result c.numbered_behind-p.result c.sound_first-n.ensures.0 c.numbered_behind-p.ensures (λ e. omega (arith, e))
-
-pub returns : goal.returns
-returns c = held-blocks c.args.capture.now (omega arith) c.sound_first-n.result c.numbered_behind-p.result c.sound_first-n.ensures.0 c.numbered_behind-p.ensures (omega arith)
+pub returns-in_err-sized : goal.returns-in_err-sized
+returns-in_err-sized c =
+    let p = err_from_is_err_and c.from_residual.result c.from_residual.ensures.1 in
+    rw (p.1, p.2) (held-refused c.args.capture.now c.in_err-sized.ensures)

@@ -1,4 +1,6 @@
 -- `reading::finished_part` meets its contract.
+use mathlib.Core.Path.{ap, ◌∙◌}
+use Rattle.capture.specs.Blocks.{used}
 use Rattle.capture.proofs.CallLaws.{no_place, past-places, a-place}
 use native.Mathlib.Omega.{arith}
 use Rattle.capture.proofs.reading.finished_part.Goals as goal
@@ -12,4 +14,4 @@ returns-then-n-place c = let a = c.args in past-places a.capture.now a.n a.place
 pub returns : goal.returns
 returns c =
     let a = c.args in
-    a-place a.capture.now a.n a.place (λ e. omega (arith, e)) (omega arith) c.start_of-start.result c.used_bytes.result c.start_of-start.ensures c.used_bytes.ensures
+    a-place a.capture.now a.n a.place (λ e. omega (arith, e)) (omega arith) c.used_bytes.result (c.used_bytes.ensures ∙ ap used c.block_at.ensures)

@@ -19,24 +19,24 @@ returns-then-left-lt14 c =
     let a = c.args in
     line-header a.line.now a.at (omega arith) c.if-line-at-ne27.false (omega arith)
 
-pub returns-then-n-eq0 : goal.returns-then-n-eq0
-returns-then-n-eq0 c =
+pub returns-in_default : goal.returns-in_default
+returns-in_default c =
     let a = c.args in
-    line-length a.line.now a.at (omega arith) c.if-line-at-ne27.false (omega arith) c.length_in-n.result c.length_in-n.ensures c.if-n-eq0.true
-    c.length_place-place.result c.length_place-place.ensures
+    line-length a.line.now a.at (omega arith) c.if-line-at-ne27.false (omega arith) c.length_in.result c.length_in.ensures c.in_default.is
+    c.length_place.result c.length_place.ensures
 
 pub returns-then-left-n : goal.returns-then-left-n
 returns-then-left-n c =
     let a = c.args in
-    line-whole a.line.now a.at (omega arith) c.if-line-at-ne27.false (omega arith) c.length_in-n.result c.length_in-n.ensures c.if-n-eq0.false (omega arith)
+    line-whole a.line.now a.at (omega arith) c.if-line-at-ne27.false (omega arith) c.length_in.result c.length_in.ensures c.in-Some.n c.in-Some.is (omega arith)
 
 pub own_outline-requires : goal.own_outline-requires
 own_outline-requires c =
     let a = c.args in
-    line-part a.line.now a.at (omega arith) c.if-line-at-ne27.false (omega arith) c.length_in-n.result c.length_in-n.ensures c.if-n-eq0.false (omega arith)
+    line-part a.line.now a.at (omega arith) c.if-line-at-ne27.false (omega arith) c.length_in.result c.length_in.ensures c.in-Some.n c.in-Some.is (omega arith)
 
 pub returns : goal.returns
 returns c =
     let a = c.args in
     c.own_outline.ensures
-    ∙ line-own a.line.now a.at (omega arith) c.if-line-at-ne27.false (omega arith) c.length_in-n.result c.length_in-n.ensures c.if-n-eq0.false (omega arith)
+    ∙ line-own a.line.now a.at (omega arith) c.if-line-at-ne27.false (omega arith) c.length_in.result c.length_in.ensures c.in-Some.n c.in-Some.is (omega arith)

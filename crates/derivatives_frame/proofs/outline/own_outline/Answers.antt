@@ -9,13 +9,15 @@ use Rattle.derivatives_frame.specs.Outline.{header}
 use Rattle.derivatives_frame.proofs.HeadSteps.{bad-block, bad-high, bad-low, all-good, head-is}
 use Rattle.derivatives_frame.proofs.OutlineSteps.{own-return, own-feed, own-check, own-head, own-whole}
 use Rattle.derivatives_frame.proofs.outline.own_outline.Goals as goal
-use Rattle.derivatives_frame.proofs.outline.own_outline.Goals.{then-h+then-high-le9+else-low-le9, then-h+else-high-le9, else-h}
+use Rattle.derivatives_frame.proofs.outline.own_outline.Goals.{then-f-n-ne13-via-then-f-n-ne13, then-f-n-ne13-via-else-f-n-ne13+then-f-n-ne10}
+use Rattle.derivatives_frame.proofs.outline.own_outline.Goals.{else-h-via-then-h+then-high-le9+else-low-le9, else-h-via-then-h+else-high-le9, else-h-via-else-h}
 
 pub returns-then-f-n-ne13 : goal.returns-then-f-n-ne13
-returns-then-f-n-ne13 c = own-return c.args.f.now c.if-f-n-ne13.true
-
-pub returns-then-f-n-ne10 : goal.returns-then-f-n-ne10
-returns-then-f-n-ne10 c = own-feed c.args.f.now c.if-f-n-ne13.false c.if-f-n-ne10.true
+returns-then-f-n-ne13 c =
+    elim c.then-f-n-ne13.branch [
+      | then-f-n-ne13-via-then-f-n-ne13 w ↦ own-return c.args.f.now w.if-f-n-ne13.true
+      | then-f-n-ne13-via-else-f-n-ne13+then-f-n-ne10 w ↦ own-feed c.args.f.now w.if-f-n-ne13.false w.if-f-n-ne10.true
+    ]
 
 pub returns-then-f-n : goal.returns-then-f-n
 returns-then-f-n c =
@@ -32,10 +34,10 @@ returns-then-low-le9 c =
 pub returns : goal.returns
 returns c =
     let long : 12 ≤ length c.args.f.now = omega (arith, c.requires.0) in
-    let bad-head : head_good header c.args.f.now ≡ false = elim c.if-h.branch [
-      | then-h+then-high-le9+else-low-le9 w ↦ bad-low c.args.f.now long c.eight_at-h.result c.eight_at-h.ensures w.if-low-le9.false
-      | then-h+else-high-le9 w ↦ bad-high c.args.f.now long c.eight_at-h.result c.eight_at-h.ensures w.if-high-le9.false
-      | else-h w ↦ bad-block c.args.f.now long c.eight_at-h.result c.eight_at-h.ensures w.if-h.false
+    let bad-head : head_good header c.args.f.now ≡ false = elim c.else-h.branch [
+      | else-h-via-then-h+then-high-le9+else-low-le9 w ↦ bad-low c.args.f.now long c.eight_at-h.result c.eight_at-h.ensures w.if-low-le9.false
+      | else-h-via-then-h+else-high-le9 w ↦ bad-high c.args.f.now long c.eight_at-h.result c.eight_at-h.ensures w.if-high-le9.false
+      | else-h-via-else-h w ↦ bad-block c.args.f.now long c.eight_at-h.result c.eight_at-h.ensures w.if-h.false
     ] in
     own-head c.args.f.now c.if-f-n-ne13.false c.if-f-n-ne10.false c.xor_of-x.result c.xor_of-x.ensures c.if-f-n.false
-    bad-head c.head_place-place.result c.head_place-place.ensures
+    bad-head c.head_place.result c.head_place.ensures

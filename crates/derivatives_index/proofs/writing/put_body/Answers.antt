@@ -5,9 +5,10 @@ use native.Mathlib.Omega.{arith}
 use lib.ListN.{length, set}
 use lib.Seq.{sets, length-sets, length-take-le}
 use borrow.Author.Rules.{rules}
+use Rattle.digits.proofs.FieldLaws.{put-fits}
 use Rattle.layout.specs.Cells.{encode}
 use Rattle.derivatives_index.specs.Index.{index_cells, index_values, room}
-use Rattle.derivatives_index.proofs.WriteSteps.{keeps-room, body-put}
+use Rattle.derivatives_index.proofs.WriteSteps.{keeps-room, keeps-time, keeps-value, day-small, body-put}
 use Rattle.derivatives_index.proofs.writing.put_body.Goals as goal
 
 pub slice_bounds-contract-end : goal.slice_bounds-contract-end
@@ -21,6 +22,17 @@ slice_bounds-put_bytes-end c =
     let long : length c.args.m.contract ≡ room = search rules in
     let within : c.args.m.length ≤ length c.args.m.contract = omega (arith, long, keeps-room c.args.m c.requires.1) in
     sym (length-take-le c.args.m.length c.args.m.contract within)
+
+pub unwrap-requires : goal.unwrap-requires
+unwrap-requires c =
+    let m = c.args.m in
+    rw (c.write.ensures.0 ∙ (put-fits m.time 4 c.put_bytes.new.buf (14 + m.length) (omega arith) (omega (arith, c.requires.0, c.put_bytes.auto.buf)) (day-small m.time (keeps-time m c.requires.1))).0)
+
+pub unwrap-requires-2 : goal.unwrap-requires-2
+unwrap-requires-2 c =
+    let m = c.args.m in
+    let long : length m.contract ≡ room = search rules in
+    rw (c.write-2.ensures.0 ∙ (put-fits m.value.0 4 c.write.new.buf (18 + m.length) (omega arith) (omega (arith, c.requires.0, c.put_bytes.auto.buf, c.write.auto.buf)) (keeps-value m (record { contract-long = long }) c.requires.1)).0)
 
 pub shape_of-buf : goal.shape_of-buf
 shape_of-buf c =

@@ -1,10 +1,6 @@
--- `fields::limit` meets its contract. The loop's invariant: after k turns the number is 100 ^ k.
-use Prim.Native.Nat.{◌≤◌, ◌-◌, ◌^◌}
-use mathlib.Core.Path.{◌≡◌}
+-- `fields::limit` meets its contract. The loop's invariant: after so many turns the number is that power of 100.
+use Rattle.std.specs.Prelude.{◌≡◌, ◌^◌}
 use Rattle.digits.proofs.fields.limit.Given as goal
 
-abbrev pub invariant-loop-k : goal.invariant-loop-k
-invariant-loop-k l = (l.k ≤ l.n) × (l.r ≡ 100 ^ l.k)
-
-abbrev pub decreases-loop-k : goal.decreases-loop-k
-decreases-loop-k l = l.n - l.k
+abbrev pub invariant-loop : goal.invariant-loop
+invariant-loop l = l.r ≡ 100 ^ l.counter

@@ -6,7 +6,4 @@ use Rattle.digits.specs.Packed.{packed}
 use Rattle.digits.proofs.fields.put_each.Given as goal
 
 abbrev pub invariant-loop-k : goal.invariant-loop-k
-invariant-loop-k l = (l.at ≤ l.k) × (l.k ≤ l.at + l.n) × (l.w ≡ l.v / 100 ^ (l.at + l.n - l.k)) × (l.buf ≡ sets l.initial.buf l.k (packed (l.at + l.n - l.k) l.v))
-
-abbrev pub decreases-loop-k : goal.decreases-loop-k
-decreases-loop-k l = l.k - l.at
+invariant-loop-k l = (l.at ≤ l.k) × (l.w ≡ l.v / 100 ^ (l.at + l.n - l.k)) × (l.buf ≡ sets l.initial.buf l.k (packed (l.at + l.n - l.k) l.v))

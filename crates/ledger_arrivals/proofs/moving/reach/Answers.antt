@@ -13,12 +13,7 @@ returns-then-ends-eq0 c = (omega arith, omega arith, zeros-stay (most_number + 1
 pub returns-then-ends-eq0-2 : goal.returns-then-ends-eq0-2
 returns-then-ends-eq0-2 c = (omega arith, omega arith, zeros-stay (most_number + 1) 65 c.args.ends.now c.requires.falls c.requires.whole (omega arith) c.if-ends-eq0-2.true)
 
-pub returns-else-ends-eq0-2 : goal.returns-else-ends-eq0-2
-returns-else-ends-eq0-2 c =
-    let es = c.args.ends.now in
-    (omega arith, omega arith, sym (drop_of_length-le es {i = 129} (omega arith)))
-
-pub returns-else-at-lt-SOME : goal.returns-else-at-lt-SOME
-returns-else-at-lt-SOME c =
+pub returns : goal.returns
+returns c =
     let es = c.args.ends.now in
     (omega arith, omega arith, sym (drop_of_length-le es {i = 129} (omega arith)))

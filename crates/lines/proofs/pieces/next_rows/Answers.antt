@@ -1,5 +1,6 @@
 -- `pieces::next_rows` meets its contract: what is still to give stays the same from turn to turn.
-use mathlib.Core.Path.{◌∙◌}
+use Rattle.std.specs.Prelude.{◌≡◌, Ok, Err}
+use mathlib.Core.Path.{ap, ◌∙◌}
 use native.Mathlib.Omega.{arith}
 use borrow.Author.Rules.{rules}
 use Rattle.walk.proofs.TurnLaws.{Met, met-within, met-stops, gives-no-more, goes_on, gives_one, gives-two, gives-full}
@@ -31,28 +32,30 @@ pub loop-at-preserved : goal.loop-at-preserved
 loop-at-preserved c =
     let met : let a = c.args in Met (line_on a.exchange) a.closed a.line.now c.loop-at.at c.stretch_at-s.result = record { left_over = c.loop-at-test.true; is = c.stretch_at-s.ensures } in
     let l = c.loop-at in
-    goes_on met l.kept c.if-n-eq0.false c.told.result c.told.ensures c.in-Nothing.later c.in-Nothing.is
+    goes_on met l.kept c.if-n-eq0.false c.told.result c.told.ensures c.in-Nothing.later (c.in_ok-later.was ∙ ap Ok c.in-Nothing.is)
     ∙ l.invariant
 
 pub returns-in-One : goal.returns-in-One
 returns-in-One c =
     let met : let a = c.args in Met (line_on a.exchange) a.closed a.line.now c.loop-at.at c.stretch_at-s.result = record { left_over = c.loop-at-test.true; is = c.stretch_at-s.ensures } in
     let l = c.loop-at in
-    gives_one met l.kept c.if-n-eq0.false c.told.result c.told.ensures c.in-One.row c.in-One.later c.in-One.is
+    gives_one met l.kept c.if-n-eq0.false c.told.result c.told.ensures c.in-One.row c.in-One.later (c.in_ok-later.was ∙ ap Ok c.in-One.is)
     ∙ l.invariant
 
 pub returns-in-Two : goal.returns-in-Two
 returns-in-Two c =
     let met : let a = c.args in Met (line_on a.exchange) a.closed a.line.now c.loop-at.at c.stretch_at-s.result = record { left_over = c.loop-at-test.true; is = c.stretch_at-s.ensures } in
     let l = c.loop-at in
-    gives-two met l.kept c.if-n-eq0.false c.told.result c.told.ensures c.in-Two.skipped c.in-Two.row c.in-Two.later c.in-Two.is
+    gives-two met l.kept c.if-n-eq0.false c.told.result c.told.ensures c.in-Two.skipped c.in-Two.row c.in-Two.later (c.in_ok-later.was ∙ ap Ok c.in-Two.is)
     ∙ l.invariant
 
-pub returns-in-Full : goal.returns-in-Full
-returns-in-Full c =
+pub returns-in_err-later : goal.returns-in_err-later
+returns-in_err-later c =
     let met : let a = c.args in Met (line_on a.exchange) a.closed a.line.now c.loop-at.at c.stretch_at-s.result = record { left_over = c.loop-at-test.true; is = c.stretch_at-s.ensures } in
     let l = c.loop-at in
-    gives-full met l.kept c.if-n-eq0.false c.told.result c.told.ensures c.in-Full.is
+    let e = c.in_err-later.field-0.0 in
+    let handed : c.from_residual.result ≡ Err e = search rules in
+    handed ∙ gives-full met l.kept c.if-n-eq0.false c.told.result c.told.ensures e c.in_err-later.was
     ∙ l.invariant
 
 pub returns : goal.returns

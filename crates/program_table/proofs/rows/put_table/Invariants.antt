@@ -1,12 +1,9 @@
 -- The entries up to this byte are put.
-use Rattle.std.proofs.Common.{◌-◌, ◌≤◌, take}
+use Rattle.std.proofs.Common.{take}
 use Rattle.digits.specs.Table.{digit_table}
 use Rattle.printing.specs.Text.{Puts}
 use Rattle.program_table.specs.Printed.{entries_text}
 use Rattle.program_table.proofs.rows.put_table.Given as goal
 
 abbrev pub invariant-loop-b : goal.invariant-loop-b
-invariant-loop-b l = (l.b ≤ 256) × Puts (entries_text 0 (take l.b digit_table)) l.at l.initial.out l.to l.out
-
-abbrev pub decreases-loop-b : goal.decreases-loop-b
-decreases-loop-b l = 256 - l.b
+invariant-loop-b l = Puts (entries_text 0 (take l.b digit_table)) l.at l.initial.out l.to l.out

@@ -4,4 +4,4 @@ use Rattle.stock_board.proofs.Row.after.Goals as goal
 
 pub returns : goal.returns
 unfolding row_after
-returns c = rw (c.after-trade.ensures, c.side_after-bids.ensures, c.side_after-asks.ensures)
+returns c = rw (c.trade_after.ensures, c.side_after.ensures, c.side_after-2.ensures)

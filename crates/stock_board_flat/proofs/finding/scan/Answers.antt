@@ -1,5 +1,6 @@
 -- `finding::scan` meets its contract. The loop's invariant: what is found from here on is what is found from the start.
-use mathlib.Core.Path.{sym, ◌∙◌}
+use mathlib.Core.Path.{◌≡◌, sym, ◌∙◌}
+use lib.ListN.{length}
 use native.Mathlib.Omega.{arith}
 use borrow.Author.Rules.{rules}
 use Rattle.stock_board_flat.proofs.FindLaws.{first-here, first_on, first-end}
@@ -24,4 +25,5 @@ pub returns : goal.returns
 returns c =
     let a = c.args in
     let l = c.loop-at in
-    first-end a.code a.heads.now l.at (omega arith) l.invariant.1
+    let all : length a.heads.now ≡ l.at = omega arith in
+    all ∙ first-end a.code a.heads.now l.at (omega arith) l.invariant.1

@@ -1,5 +1,5 @@
 -- `finding::scan` meets its contract. The loop's invariant: what is found from here on is what is found from the start.
-use Prim.Native.Nat.{◌+◌, ◌-◌, ◌≤◌}
+use Prim.Native.Nat.{◌+◌, ◌≤◌}
 use mathlib.Core.Path.{◌≡◌}
 use lib.ListN.{length, drop}
 use Rattle.stock_board_flat.specs.Steps.{first_of}
@@ -7,6 +7,3 @@ use Rattle.stock_board_flat.proofs.finding.scan.Given as goal
 
 abbrev pub invariant-loop-at : goal.invariant-loop-at
 invariant-loop-at l = (l.at ≤ length l.heads) × (l.at + first_of l.code (drop l.at l.heads) ≡ first_of l.code l.heads)
-
-abbrev pub decreases-loop-at : goal.decreases-loop-at
-decreases-loop-at l = length l.heads - l.at

@@ -19,15 +19,15 @@ outline-requires c = tt
 pub past-n-requires : goal.past-n-requires
 past-n-requires c = tt
 
-pub returns-in-Whole : goal.returns-in-Whole
-returns-in-Whole c =
+pub returns-in-Ok : goal.returns-in-Ok
+returns-in-Ok c =
     let a = c.args in
-    ap (met_outline a.closed) (sym c.in-Whole.is)
+    ap (met_outline a.closed) (sym c.in-Ok.is)
     ∙ met-outline a.closed a.line.now a.at c.noise-n.result c.noise-n.ensures c.if-n-gt0.false c.outline.result c.outline.ensures
 
-pub returns-in-Not : goal.returns-in-Not
-returns-in-Not c =
+pub returns-in-Err : goal.returns-in-Err
+returns-in-Err c =
     let a = c.args in
     ap Past c.past-n.ensures
-    ∙ ap (met_outline a.closed) (sym c.in-Not.is)
+    ∙ ap (met_outline a.closed) (sym c.in-Err.is)
     ∙ met-outline a.closed a.line.now a.at c.noise-n.result c.noise-n.ensures c.if-n-gt0.false c.outline.result c.outline.ensures

@@ -1,23 +1,21 @@
 -- `slots::slots_in` meets its contract. The loop's invariant: the slots filled and those of the bytes from here on are all slots,
 -- and a test of all is what it gave so far with the test from here on.
-use Prim.Native.Nat.{ℕ, ◌-◌}
+use Prim.Native.Nat.{ℕ, ◌+◌, ◌-◌, ◌*◌}
+use mathlib.Core.Bool.{◌&&◌}
+use mathlib.Core.List.{◌++◌}
 use mathlib.Core.Path.{◌≡◌, refl, sym, ap, ◌∙◌}
 use native.Mathlib.Omega.{arith}
-use borrow.Author.Tests.{not-true, not-false}
-use lib.ListN.{length-set}
+use lib.ListN.{set, take, length-set}
 use lib.Dec.{ltb}
-use Rattle.digits.proofs.Bools.{no_false}
 use Rattle.stock_prices.specs.Prices.{slot_timed, slot_ruled}
 use Rattle.stock_prices_read.proofs.SlotReads.{ruled-is}
-use Rattle.stock_prices_read.proofs.SlotsRead.{pass_from, turn-bad, turn-good, turn-slots, turn-pass, done-good, done-slots, done-pass}
+use Rattle.stock_prices_read.proofs.SlotsRead.{good_from, slots_from, pass_from, turn-bad, turn-good, turn-slots, turn-pass, done-good, done-slots, done-pass}
 use Rattle.stock_prices_read.proofs.slots.slots_in.Goals as goal
 
 pub loop-i-init : goal.loop-i-init
 loop-i-init c =
     let a = c.args in
     let all : a.n - 0 ≡ a.n = omega arith in (
-      omega arith,
-      omega arith,
       refl,
       refl,
       refl,
@@ -25,41 +23,38 @@ loop-i-init c =
       ap (λ (m : ℕ). pass_from a.body.now slot_ruled 10 m 1) all,
     )
 
-pub returns-then-not-f : goal.returns-then-not-f
-returns-then-not-f c =
+pub returns-in_err-f : goal.returns-in_err-f
+returns-in_err-f c =
     let l = c.loop-i in
-    let b = c.args.body.now in (
-      sym (turn-bad b l.slots l.i l.at (omega arith) l.invariant.2 l.invariant.3 l.invariant.4
-          (sym c.slot_at-f.ensures.0 ∙ not-true _ c.if-not-f.true)),
-      λ t. absurd (no_false t),
-    )
+    let v = l.invariant in
+    rw c.from_residual.ensures (turn-bad c.args.body.now l.slots l.i (1 + 36 * l.i) (omega arith) v.0 v.1 v.2 c.in_err-f.ensures)
 
 pub loop-i-preserved : goal.loop-i-preserved
 loop-i-preserved c =
     let l = c.loop-i in
+    let v = l.invariant in
     let a = c.args in
     let b = a.body.now in
-    let good = not-false _ c.if-not-f.false in
-    let told = c.slot_at-f.ensures.1 good in (
-      omega arith,
-      omega arith,
-      length-set l.slots l.i _ ∙ l.invariant.2,
-      turn-good b l.slots l.i l.at (omega arith) l.invariant.2 l.invariant.3 l.invariant.4 (sym c.slot_at-f.ensures.0 ∙ good),
-      turn-slots b l.slots l.i l.at (omega arith) l.invariant.2 l.invariant.3 l.invariant.4 _ told.0,
-      turn-pass b l.slots l.i l.at (omega arith) l.invariant.2 l.invariant.3 l.invariant.4 slot_timed a.n l.timed l.invariant.5 told.1 c.both-timed.ensures,
-      turn-pass b l.slots l.i l.at (omega arith) l.invariant.2 l.invariant.3 l.invariant.4 slot_ruled a.n l.ruled l.invariant.6
-          (c.slot_right.ensures ∙ ruled-is b l.at (omega arith) (ltb l.i a.n) _ told.0) c.both-ruled.ensures,
+    let at = 1 + 36 * l.i in
+    let next : at + 36 ≡ 1 + 36 * (l.i + 1) = omega arith in
+    let told = c.in_ok-f.ensures in (
+      length-set l.slots l.i _ ∙ v.0,
+      ap (good_from b (10 - (l.i + 1))) (sym next) ∙ turn-good b l.slots l.i at (omega arith) v.0 v.1 v.2 told.0,
+      ap (λ (k : ℕ). take (l.i + 1) (set l.slots l.i c.in_ok-f.f.slot) ++ slots_from b (10 - (l.i + 1)) k) (sym next) ∙ turn-slots b l.slots l.i at (omega arith) v.0 v.1 v.2 _ told.1,
+      ap (λ (k : ℕ). (l.timed && c.in_ok-f.f.timed) && pass_from b slot_timed (10 - (l.i + 1)) (a.n - (l.i + 1)) k) (sym next) ∙ turn-pass b l.slots l.i at (omega arith) v.0 v.1 v.2 slot_timed a.n l.timed v.3 told.2 refl,
+      ap (λ (k : ℕ). (l.ruled && c.slot_right-ruled.result) && pass_from b slot_ruled (10 - (l.i + 1)) (a.n - (l.i + 1)) k) (sym next) ∙ turn-pass b l.slots l.i at (omega arith) v.0 v.1 v.2 slot_ruled a.n l.ruled v.4
+          (c.slot_right-ruled.ensures ∙ ruled-is b at (omega arith) (ltb l.i a.n) _ told.1) refl,
     )
 
 pub returns : goal.returns
 returns c =
     let l = c.loop-i in
+    let v = l.invariant in
     let a = c.args in
-    let b = a.body.now in (
-      done-good b l.slots l.i l.at (omega arith) (omega arith) l.invariant.2 l.invariant.3,
-      λ t. (
-        done-slots b l.slots l.i l.at (omega arith) (omega arith) l.invariant.2 l.invariant.4,
-        done-pass b l.slots l.i l.at (omega arith) (omega arith) l.invariant.2 slot_timed a.n l.timed l.invariant.5,
-        done-pass b l.slots l.i l.at (omega arith) (omega arith) l.invariant.2 slot_ruled a.n l.ruled l.invariant.6,
-      ),
+    let b = a.body.now in
+    let at = 1 + 36 * l.i in (
+      sym (done-good b l.slots l.i at (omega arith) (omega arith) v.0 v.1),
+      done-slots b l.slots l.i at (omega arith) (omega arith) v.0 v.2,
+      done-pass b l.slots l.i at (omega arith) (omega arith) v.0 slot_timed a.n l.timed v.3,
+      done-pass b l.slots l.i at (omega arith) (omega arith) v.0 slot_ruled a.n l.ruled v.4,
     )

@@ -1,6 +1,6 @@
 -- `slots::slots_in` meets its contract. The loop's invariant: the slots filled and those of the bytes from here on are all slots,
 -- and a test of all is what it gave so far with the test from here on.
-use Prim.Native.Nat.{◌+◌, ◌-◌, ◌*◌, ◌≤◌}
+use Prim.Native.Nat.{◌+◌, ◌-◌, ◌*◌}
 use mathlib.Core.Path.{◌≡◌}
 use mathlib.Core.Bool.{◌&&◌}
 use mathlib.Core.List.{◌++◌}
@@ -11,10 +11,7 @@ use Rattle.stock_prices_read.proofs.slots.slots_in.Given as goal
 
 abbrev pub invariant-loop-i : goal.invariant-loop-i
 invariant-loop-i l =
-    (l.i ≤ 10) × (l.at ≡ 1 + 36 * l.i) × (length l.slots ≡ 10) × (good_from l.body (10 - l.i) l.at ≡ good_from l.body 10 1)
-    × (take l.i l.slots ++ slots_from l.body (10 - l.i) l.at ≡ slots_from l.body 10 1)
-    × ((l.timed && pass_from l.body slot_timed (10 - l.i) (l.n - l.i) l.at) ≡ pass_from l.body slot_timed 10 l.n 1)
-    × ((l.ruled && pass_from l.body slot_ruled (10 - l.i) (l.n - l.i) l.at) ≡ pass_from l.body slot_ruled 10 l.n 1)
-
-abbrev pub decreases-loop-i : goal.decreases-loop-i
-decreases-loop-i l = 10 - l.i
+    (length l.slots ≡ 10) × (good_from l.body (10 - l.i) (1 + 36 * l.i) ≡ good_from l.body 10 1)
+    × (take l.i l.slots ++ slots_from l.body (10 - l.i) (1 + 36 * l.i) ≡ slots_from l.body 10 1)
+    × ((l.timed && pass_from l.body slot_timed (10 - l.i) (l.n - l.i) (1 + 36 * l.i)) ≡ pass_from l.body slot_timed 10 l.n 1)
+    × ((l.ruled && pass_from l.body slot_ruled (10 - l.i) (l.n - l.i) (1 + 36 * l.i)) ≡ pass_from l.body slot_ruled 10 l.n 1)

@@ -1,12 +1,9 @@
 -- `judging::ruled` meets its contract. The loop's invariant: the test that goes on from slot i is the test of all.
-use Prim.Native.Nat.{◌-◌, ◌≤◌}
+use Prim.Native.Nat.{◌-◌}
 use mathlib.Core.Path.{◌≡◌}
 use lib.ListN.{drop}
 use Rattle.stock_prices.specs.Prices.{slots_pass, slot_ruled, slots_values}
 use Rattle.stock_prices_write.proofs.judging.ruled.Given as goal
 
 abbrev pub invariant-loop-i : goal.invariant-loop-i
-invariant-loop-i l = (l.i ≤ 10) × (slots_pass slot_ruled (10 - l.i) (l.n - l.i) (slots_values (drop l.i l.slots)) ≡ slots_pass slot_ruled 10 l.n (slots_values l.slots))
-
-abbrev pub decreases-loop-i : goal.decreases-loop-i
-decreases-loop-i l = 10 - l.i
+invariant-loop-i l = slots_pass slot_ruled (10 - l.i) (l.n - l.i) (slots_values (drop l.i l.slots)) ≡ slots_pass slot_ruled 10 l.n (slots_values l.slots)

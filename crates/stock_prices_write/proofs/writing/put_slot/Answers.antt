@@ -1,25 +1,27 @@
 -- `writing::put_slot` meets its contract.
+use Prim.Native.Nat.{◌+◌}
 use mathlib.Core.Path.{◌≡◌, ap, ◌∙◌}
 use native.Mathlib.Omega.{arith}
 use lib.ListN.{length}
 use lib.Seq.{sets, length-sets}
+use Rattle.digits.proofs.FieldLaws.{put-fits}
 use Rattle.layout.specs.Cells.{encode}
 use Rattle.stock_prices.specs.Prices.{slot_cells, slot_values}
 use Rattle.stock_prices.proofs.Shapes.{code-long}
-use Rattle.stock_prices_write.proofs.WriteLaws.{slot-put}
+use Rattle.stock_prices_write.proofs.WriteLaws.{total-small, time-small, slot-put}
 use Rattle.stock_prices_write.proofs.writing.put_slot.Goals as goal
 
-pub overflow_add-at-3 : goal.overflow_add-at-3
-overflow_add-at-3 c = omega (arith, c)
+pub unwrap-requires-5 : goal.unwrap-requires-5
+unwrap-requires-5 c =
+    let s = c.args.s in
+    rw (c.write-5.ensures.0
+    ∙ (put-fits s.total.0 4 c.write-4.new.buf (c.args.at + 26) (omega arith) (omega (arith, c.requires.0, c.put_code.auto.buf, c.write.auto.buf, c.write-2.auto.buf, c.write-3.auto.buf, c.write-4.auto.buf)) (total-small s (code-long s _ c.well_formed.0) c.requires.1)).0)
 
-pub overflow_add-at-4 : goal.overflow_add-at-4
-overflow_add-at-4 c = omega (arith, c)
-
-pub overflow_add-at-5 : goal.overflow_add-at-5
-overflow_add-at-5 c = omega (arith, c)
-
-pub overflow_add-at-6 : goal.overflow_add-at-6
-overflow_add-at-6 c = omega (arith, c)
+pub unwrap-requires-6 : goal.unwrap-requires-6
+unwrap-requires-6 c =
+    let s = c.args.s in
+    rw (c.write-6.ensures.0
+    ∙ (put-fits s.time 6 c.write-5.new.buf (c.args.at + 30) (omega arith) (omega (arith, c.requires.0, c.put_code.auto.buf, c.write.auto.buf, c.write-2.auto.buf, c.write-3.auto.buf, c.write-4.auto.buf, c.write-5.auto.buf)) (time-small s (code-long s _ c.well_formed.0) c.requires.1)).0)
 
 pub shape_of-buf : goal.shape_of-buf
 shape_of-buf c =

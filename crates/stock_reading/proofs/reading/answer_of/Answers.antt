@@ -16,25 +16,25 @@ pub returns-then-kind-eq-SIX : goal.returns-then-kind-eq-SIX
 unfolding quote_reading
 returns-then-kind-eq-SIX c =
     let a = c.args in
-    ap (λ (r : QuoteReading). r.answer) c.read-r.ensures ∙ kind-hit a.kind a.seq a.body.now six six-listed c.if-kind-eq-SIX.true
+    ap (λ (r : QuoteReading). r.answer) c.read.ensures ∙ kind-hit a.kind a.seq a.body.now six six-listed c.if-kind-eq-SIX.true
 
 pub returns-then-kind-eq-TWELVE : goal.returns-then-kind-eq-TWELVE
 unfolding prices_reading
 returns-then-kind-eq-TWELVE c =
     let a = c.args in
-    ap (λ (r : PricesReading). r.answer) c.read-r-then-kind-eq-TWELVE.ensures ∙ kind-hit a.kind a.seq a.body.now twelve twelve-listed c.if-kind-eq-TWELVE.true
+    ap (λ (r : PricesReading). r.answer) c.read-then-kind-eq-TWELVE.ensures ∙ kind-hit a.kind a.seq a.body.now twelve twelve-listed c.if-kind-eq-TWELVE.true
 
 pub returns-then-kind-eq-NINETEEN : goal.returns-then-kind-eq-NINETEEN
 unfolding halt_reading
 returns-then-kind-eq-NINETEEN c =
     let a = c.args in
-    ap (λ (r : HaltReading). r.answer) c.read-r-then-kind-eq-NINETEEN.ensures ∙ kind-hit a.kind a.seq a.body.now nineteen nineteen-listed c.if-kind-eq-NINETEEN.true
+    ap (λ (r : HaltReading). r.answer) c.read-then-kind-eq-NINETEEN.ensures ∙ kind-hit a.kind a.seq a.body.now nineteen nineteen-listed c.if-kind-eq-NINETEEN.true
 
 pub returns-then-kind-eq-FIVE : goal.returns-then-kind-eq-FIVE
 unfolding notice_reading
 returns-then-kind-eq-FIVE c =
     let a = c.args in
-    ap (λ (r : NoticeReading). r.answer) c.read-r-then-kind-eq-FIVE.ensures ∙ kind-hit a.kind a.seq a.body.now five five-listed c.if-kind-eq-FIVE.true
+    ap (λ (r : NoticeReading). r.answer) c.read-then-kind-eq-FIVE.ensures ∙ kind-hit a.kind a.seq a.body.now five five-listed c.if-kind-eq-FIVE.true
 
 -- none of them
 pub refused-requires : goal.refused-requires

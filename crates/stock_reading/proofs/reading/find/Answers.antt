@@ -1,36 +1,25 @@
 -- `reading::find` meets its contract.
-use Prim.Native.Nat.{◌+◌, ◌≤◌}
-use mathlib.Core.Path.{◌≡◌, sym, ◌∙◌}
-use native.Mathlib.Omega.{arith}
-use lib.ListN.{length, drop}
+use Rattle.std.specs.Prelude.{◌≡◌, ℕ, ◌+◌, ◌≤◌, length, drop, Ok}
+use Rattle.std.proofs.Common.{arith, sym, ◌∙◌}
 use Rattle.stock_frame.specs.Outline.{outline_of}
-use Rattle.stock_frame.specs.declared.head.Outline.TheVariants.{Whole}
 use Rattle.stock_reading.proofs.PlaceLaws.{found-bounds, found-whole}
 use Rattle.stock_reading.proofs.reading.find.Goals as goal
 
-pub overflow_add-w : goal.overflow_add-w
-overflow_add-w c =
-    let whole : let a = c.args in outline_of (drop a.at a.line.now) ≡ Whole c.in-Whole.h = sym c.outline-o.ensures ∙ c.in-Whole.is in
-    let bounds : let a = c.args in (14 ≤ c.in-Whole.h.length) × (a.at + c.in-Whole.h.length ≤ length a.line.now) = let a = c.args in found-bounds a.line.now a.at c.in-Whole.h whole in
-    let b = bounds in omega (arith, b.0, b.1)
+-- the outline is whole, and its frame lies within the line
+whole : (c : goal.In_ok-head) → outline_of (drop c.args.at c.args.line.now) ≡ Ok c.in_ok-head.head
+whole c = sym c.outline.ensures ∙ c.in_ok-head.was
 
-pub overflow_add-w-in-Whole : goal.overflow_add-w-in-Whole
-overflow_add-w-in-Whole c =
-    let whole : let a = c.args in outline_of (drop a.at a.line.now) ≡ Whole c.in-Whole.h = sym c.outline-o.ensures ∙ c.in-Whole.is in
-    let bounds : let a = c.args in (14 ≤ c.in-Whole.h.length) × (a.at + c.in-Whole.h.length ≤ length a.line.now) = let a = c.args in found-bounds a.line.now a.at c.in-Whole.h whole in
-    let b = bounds in omega (arith, b.0, b.1)
+bounds : (c : goal.In_ok-head) → (14 ≤ c.in_ok-head.head.length) × (c.args.at + c.in_ok-head.head.length ≤ length c.args.line.now)
+bounds c = found-bounds c.args.line.now c.args.at c.in_ok-head.head (whole c)
 
-pub overflow_sub-w : goal.overflow_sub-w
-overflow_sub-w c =
-    let whole : let a = c.args in outline_of (drop a.at a.line.now) ≡ Whole c.in-Whole.h = sym c.outline-o.ensures ∙ c.in-Whole.is in
-    let bounds : let a = c.args in (14 ≤ c.in-Whole.h.length) × (a.at + c.in-Whole.h.length ≤ length a.line.now) = let a = c.args in found-bounds a.line.now a.at c.in-Whole.h whole in
-    let b = bounds in omega (arith, b.0, b.1)
+pub overflow_add-result : goal.overflow_add-result
+overflow_add-result c = let b = bounds c in omega (arith, b.0, b.1)
 
-pub returns-in-Not : goal.returns-in-Not
-returns-in-Not c = sym c.outline-o.ensures ∙ c.in-Not.is
+pub overflow_add-result-2 : goal.overflow_add-result-2
+overflow_add-result-2 c = let b = bounds c in omega (arith, b.0, b.1)
 
-pub returns-in-Whole : goal.returns-in-Whole
-returns-in-Whole c =
-    let whole : let a = c.args in outline_of (drop a.at a.line.now) ≡ Whole c.in-Whole.h = sym c.outline-o.ensures ∙ c.in-Whole.is in
-    let a = c.args in
-    found-whole a.line.now a.at c.in-Whole.h whole
+pub overflow_sub-result : goal.overflow_sub-result
+overflow_sub-result c = let b = bounds c in omega (arith, b.0, b.1)
+
+pub returns : goal.returns
+returns c = found-whole c.args.line.now c.args.at c.in_ok-head.head (whole c)

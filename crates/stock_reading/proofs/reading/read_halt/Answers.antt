@@ -6,16 +6,16 @@ use Rattle.stock_reading.proofs.PlaceLaws.{KindFound, kind-found, kind-other}
 use Rattle.stock_reading.proofs.reading.read_halt.Goals as goal
 
 -- none is there
-pub returns-in-None : goal.returns-in-None
-returns-in-None c =
+pub returns-in-Err : goal.returns-in-Err
+returns-in-Err c =
     let a = c.args in
-    let other = kind-other nineteen_codec no_halt nineteen-listed a.line.now a.at _ c.find_kind.ensures c.in-None.answer c.in-None.is in
-    let none = c.empty-halt.ensures ∙ other.1 in
+    let other = kind-other nineteen_codec no_halt nineteen-listed a.line.now a.at _ c.find_kind.ensures c.in-Err.answer c.in-Err.is in
+    let none = c.empty.ensures ∙ other.1 in
     λ i. record { answer = other.0 i; halt = none i }
 
-pub returns-in-At : goal.returns-in-At
+pub returns-in-Ok : goal.returns-in-Ok
 unfolding halt_reading
-returns-in-At c =
-    let found : KindFound nineteen_codec no_halt c.args.line.now c.args.at c.in-At.w = let a = c.args in kind-found nineteen_codec no_halt nineteen-listed a.line.now a.at _ c.find_kind.ensures c.in-At.w c.in-At.is in
+returns-in-Ok c =
+    let found : KindFound nineteen_codec no_halt c.args.line.now c.args.at c.in-Ok.w = let a = c.args in kind-found nineteen_codec no_halt nineteen-listed a.line.now a.at _ c.find_kind.ensures c.in-Ok.w c.in-Ok.is in
     let hit = found in
     c.read.ensures ∙ (λ i. record { answer = hit.answers i; halt = hit.means i })

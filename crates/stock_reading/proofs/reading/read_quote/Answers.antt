@@ -6,16 +6,16 @@ use Rattle.stock_reading.proofs.PlaceLaws.{KindFound, kind-found, kind-other}
 use Rattle.stock_reading.proofs.reading.read_quote.Goals as goal
 
 -- none is there
-pub returns-in-None : goal.returns-in-None
-returns-in-None c =
+pub returns-in-Err : goal.returns-in-Err
+returns-in-Err c =
     let a = c.args in
-    let other = kind-other six_codec no_quote six-listed a.line.now a.at _ c.find_kind.ensures c.in-None.answer c.in-None.is in
-    let none = c.empty-quote.ensures ∙ other.1 in
+    let other = kind-other six_codec no_quote six-listed a.line.now a.at _ c.find_kind.ensures c.in-Err.answer c.in-Err.is in
+    let none = c.empty.ensures ∙ other.1 in
     λ i. record { answer = other.0 i; quote = none i }
 
-pub returns-in-At : goal.returns-in-At
+pub returns-in-Ok : goal.returns-in-Ok
 unfolding quote_reading
-returns-in-At c =
-    let found : KindFound six_codec no_quote c.args.line.now c.args.at c.in-At.w = let a = c.args in kind-found six_codec no_quote six-listed a.line.now a.at _ c.find_kind.ensures c.in-At.w c.in-At.is in
+returns-in-Ok c =
+    let found : KindFound six_codec no_quote c.args.line.now c.args.at c.in-Ok.w = let a = c.args in kind-found six_codec no_quote six-listed a.line.now a.at _ c.find_kind.ensures c.in-Ok.w c.in-Ok.is in
     let hit = found in
     c.read.ensures ∙ (λ i. record { answer = hit.answers i; quote = hit.means i })

@@ -1,7 +1,7 @@
 -- `reading::refused` meets its contract: 8 for another version of a format, 7 where there is none.
+use Rattle.std.specs.Prelude.{None}
 use Prim.Native.Nat.{ℕ}
 use mathlib.Core.Path.{ap, ◌∙◌}
-use Rattle.digits.specs.declared.halves.Place.TheVariants.{None}
 use Rattle.answers.specs.declared.Answer.TheVariants.{Refused}
 use Rattle.stock_notices.specs.Notices.{five}
 use Rattle.stock_quotes.specs.Quotes.{six}

@@ -1,7 +1,0 @@
--- `trivsome_highest` meets its contract.
-use Rattle.c_ledger.proofs.HandedOn.{figure-handed}
-use borrow.Author.Rules.{rules}
-use Rattle.c_ledger.proofs.trivsome_highest.Goals as goal
-
-pub returns : goal.returns
-returns c = search (rules, figure-handed)

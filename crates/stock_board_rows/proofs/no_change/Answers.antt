@@ -1,5 +1,0 @@
--- `no_change` meets its contract.
-use Rattle.stock_board_rows.proofs.no_change.Goals as goal
-
-pub returns : goal.returns
-returns c = rw c.free-row.ensures

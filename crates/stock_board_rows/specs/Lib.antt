@@ -1,2 +1,0 @@
--- The steps of the board's calls over a slice of rows.
-pub mod Steps
