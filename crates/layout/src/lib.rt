@@ -13,5 +13,8 @@ pub fn put_bytes(s: &[u8], buf: &mut [u8], at: usize)
     if buf.len() < s.len() || buf.len() - s.len() < at {
         return;
     }
-    buf[at..at + s.len()].copy_from_slice(s);
+    // by items: with `copy_from_slice` the archive for C needs `memmove` from outside
+    for i in 0..s.len() {
+        buf[at + i] = s[i];
+    }
 }

@@ -1,20 +1,39 @@
--- `put_bytes` meets its contract: where the bytes fit, the part that they are copied over is what they are set on.
-use Prim.Native.Nat.{ℕ, ◌+◌, ◌-◌, ◌≤◌}
-use mathlib.Core.Path.{◌≡◌, ap, sym, ◌∙◌}
-use mathlib.Core.List.{List, ◌++◌}
+-- `bytes::put_bytes` meets its contract. The loop's invariant: the first i bytes stand at their place.
+use mathlib.Core.Path.{refl, ap, ◌∙◌}
+use borrow.Author.Rules.{rules}
 use native.Mathlib.Omega.{arith}
-use borrow.Author.Tests.{le-leb}
-use borrow.Rule.Slice.PartMut.{put_mid}
-use lib.ListN.{length, take, drop}
-use lib.Seq.{sets-eq, drop-drop}
-use Rattle.std.proofs.Common.{append_assoc}
-use Rattle.layout.specs.Bytes.{bytes_over}
+use lib.ListN.{length, take}
+use lib.Seq.{sets, length-sets, take_all}
+use Rattle.layout.proofs.PutLaws.{put-turns, bytes-out, bytes-in}
 use Rattle.layout.proofs.put_bytes.Goals as goal
 
-copied : (s buf new : List ℕ) (at k : ℕ) → at + length s ≤ length buf → k ≡ length s → new ≡ s → put_mid at k buf new ≡ bytes_over s buf at
-copied s buf new at k h e f = rw (le-leb (at + length s) (length buf) h, e, f) (ap (λ (l : List ℕ). take at buf ++ (s ++ l)) (drop-drop (length s) at buf) ∙ sym (append_assoc (take at buf) s (drop (at + length s) buf)) ∙ sym (sets-eq s buf at h))
+pub returns-then-buf-s : goal.returns-then-buf-s
+returns-then-buf-s c = let a = c.args in bytes-out a.s.now a.buf.now a.at (omega arith)
+
+pub loop-i-init : goal.loop-i-init
+loop-i-init c = (search rules, refl)
+
+pub bounds-buf-at : goal.bounds-buf-at
+bounds-buf-at c =
+    let a = c.args in
+    let l = c.loop-i in
+    omega (arith, ap length l.invariant.1, length-sets a.buf.now a.at (take l.i a.s.now))
+
+pub loop-i-preserved : goal.loop-i-preserved
+loop-i-preserved c =
+    let a = c.args in
+    let l = c.loop-i in
+    (search rules, put-turns a.s.now a.buf.now l.buf a.at l.i l.invariant.1 (search rules))
+
+pub shape_of-buf : goal.shape_of-buf
+shape_of-buf c =
+    let a = c.args in
+    let l = c.loop-i in
+    ap length l.invariant.1 ∙ length-sets a.buf.now a.at (take l.i a.s.now)
 
 pub returns : goal.returns
 returns c =
     let a = c.args in
-    copied a.s.now a.buf.now c.copy_from_slice.new.self a.at (a.at + length a.s.now - a.at) (omega arith) (omega arith) c.copy_from_slice.ensures.after
+    let l = c.loop-i in
+    l.invariant.1 ∙ ap (sets a.buf.now a.at) (take_all l.i a.s.now (omega arith))
+    ∙ bytes-in a.s.now a.buf.now a.at (omega arith)
