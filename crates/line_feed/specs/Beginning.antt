@@ -8,9 +8,9 @@ use Rattle.line_feed.specs.declared.frames.Frames.{Frames}
 use Rattle.line_feed.specs.declared.moves.Moves.{Moves}
 use Rattle.line_feed.specs.declared.rows.Rows.{Rows}
 
--- nothing in hand, no text that waits
+-- nothing in hand, no text that waits, and nothing failed
 abbrev pub fresh_feed : Exchange → Feed
-fresh_feed e = record { at = 0; end = 0; to = 0; short = false; closed = false; exchange = e }
+fresh_feed e = record { at = 0; end = 0; to = 0; short = false; closed = false; exchange = e; failure = None }
 
 -- and no row that is known
 abbrev pub fresh_rows : Exchange → Rows

@@ -9,7 +9,7 @@ pub fn is_given<E: Env>(env: &E, i: usize) -> bool {
 
 // Whether the only argument is this word: false where there is no argument, none where there is another one, or more than one. A
 // longer word is another one.
-pub fn is_asked<E: Env, const N: usize>(env: &E, word: &[u8; N]) -> Option<bool> {
+fn is_asked<E: Env, const N: usize>(env: &E, word: &[u8; N]) -> Option<bool> {
     if is_given(env, 2) {
         return None;
     }

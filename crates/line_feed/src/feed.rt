@@ -61,6 +61,8 @@ pub struct Feed {
     pub closed: bool,
     // whose line it is
     pub exchange: Exchange,
+    // what failed, if anything did: then nothing more is pulled
+    pub failure: Option<Failure>,
 }
 
 impl Feed {
@@ -75,6 +77,7 @@ impl Feed {
             short: false,
             closed: false,
             exchange,
+            failure: None,
         }
     }
 }
@@ -99,6 +102,7 @@ pub fn tell<W: Write, F: fmt::Display + Drop>(
         return ExitCode::SUCCESS;
     };
     say(err, program);
-    let _ = write!(err, ": {failure}");
+    say(err, b": ");
+    let _ = write!(err, "{failure}");
     say(err, b"\n")
 }

@@ -1,4 +1,6 @@
 // A line's input in pieces.
+ghost use Rattle.std.specs.Prelude.{◌≡◌, length};
+
 use crate::feed::{Failure, Feed};
 use crate::output::Output;
 use printing::moving::move_down;
@@ -18,7 +20,14 @@ impl Feed {
         &mut self,
         input: &mut Input<'_, R>,
         output: &mut Output<'_, W>,
-    ) -> Result<(), Failure> {
+    ) -> Result<(), Failure>
+        ensures same_input { input.new.stream.ghost_name ≡ input.old.stream.ghost_name }
+        ensures same_buffer { input.new.buf.ghost_name ≡ input.old.buf.ghost_name }
+        ensures same_length { length input.new.buf.now ≡ length input.old.buf.now }
+        ensures same_stream { output.new.stream.ghost_name ≡ output.old.stream.ghost_name }
+        ensures same_place { output.new.out.ghost_name ≡ output.old.out.ghost_name }
+        ensures same_text { output.new.out.now ≡ output.old.out.now }
+    {
         if self.short {
             self.written(output)?;
         }

@@ -1,5 +1,5 @@
 // The moves of a line, one at a time, with their bytes.
-ghost use Rattle.std.specs.Prelude.{◌≡◌};
+ghost use Rattle.std.specs.Prelude.{◌≡◌, length};
 ghost use Rattle.line_feed.specs.Beginning.{fresh_moves};
 
 use crate::feed::{Failure, Feed};
@@ -41,7 +41,14 @@ impl Moves {
         &mut self,
         input: &mut Input<'_, R>,
         output: &mut Output<'_, W>,
-    ) -> Result<Option<Moved>, Failure> {
+    ) -> Result<Option<Moved>, Failure>
+        ensures same_input { input.new.stream.ghost_name ≡ input.old.stream.ghost_name }
+        ensures same_buffer { input.new.buf.ghost_name ≡ input.old.buf.ghost_name }
+        ensures same_length { length input.new.buf.now ≡ length input.old.buf.now }
+        ensures same_stream { output.new.stream.ghost_name ≡ output.old.stream.ghost_name }
+        ensures same_place { output.new.out.ghost_name ≡ output.old.out.ghost_name }
+        ensures same_text { output.new.out.now ≡ output.old.out.now }
+    {
         next(self, input, output)
     }
 }

@@ -1,4 +1,6 @@
 // The one way in which rows, moves and frames are pulled from a line.
+ghost use Rattle.std.specs.Prelude.{◌≡◌, length};
+
 use crate::feed::{Failure, Feed};
 use crate::input::Input;
 use crate::output::Output;
@@ -25,8 +27,18 @@ pub(crate) fn next<P: Pull, R: Read, W: Write>(
     pull: &mut P,
     input: &mut Input<'_, R>,
     output: &mut Output<'_, W>,
-) -> Result<Option<P::Item>, Failure> {
+) -> Result<Option<P::Item>, Failure>
+    ensures same_input { input.new.stream.ghost_name ≡ input.old.stream.ghost_name }
+    ensures same_buffer { input.new.buf.ghost_name ≡ input.old.buf.ghost_name }
+    ensures same_length { length input.new.buf.now ≡ length input.old.buf.now }
+    ensures same_stream { output.new.stream.ghost_name ≡ output.old.stream.ghost_name }
+    ensures same_place { output.new.out.ghost_name ≡ output.old.out.ghost_name }
+    ensures same_text { output.new.out.now ≡ output.old.out.now }
+{
     pull.feed().relieved(output)?;
+    if let Some(failure) = pull.feed().failure {
+        return Err(failure);
+    }
     for _ in 0..u64::MAX {
         match pull.in_hand(input.buf) {
             Ok(Some(item)) => return Ok(Some(item)),

@@ -1,5 +1,5 @@
 // The rows of a line, one at a time.
-ghost use Rattle.std.specs.Prelude.{◌≡◌};
+ghost use Rattle.std.specs.Prelude.{◌≡◌, length};
 ghost use Rattle.line_feed.specs.Beginning.{fresh_rows};
 
 use crate::feed::{Failure, Feed};
@@ -39,7 +39,14 @@ impl Rows {
         &mut self,
         input: &mut Input<'_, R>,
         output: &mut Output<'_, W>,
-    ) -> Result<Option<Row>, Failure> {
+    ) -> Result<Option<Row>, Failure>
+        ensures same_input { input.new.stream.ghost_name ≡ input.old.stream.ghost_name }
+        ensures same_buffer { input.new.buf.ghost_name ≡ input.old.buf.ghost_name }
+        ensures same_length { length input.new.buf.now ≡ length input.old.buf.now }
+        ensures same_stream { output.new.stream.ghost_name ≡ output.old.stream.ghost_name }
+        ensures same_place { output.new.out.ghost_name ≡ output.old.out.ghost_name }
+        ensures same_text { output.new.out.now ≡ output.old.out.now }
+    {
         next(self, input, output)
     }
 }

@@ -4,10 +4,11 @@
 #![tactic(auto)]
 
 mod arrivals;
+mod asked;
 mod report;
 
 use arrivals::Day;
-use line_feed::asked::is_asked;
+use asked::gives_up;
 use line_feed::feed::{Failure, LARGE, say, tell};
 use line_feed::frames::Frames;
 use line_feed::input::Input;
@@ -51,7 +52,7 @@ fn report_gaps(rt: &HostRuntime, gives_up: bool) -> ExitCode {
 }
 
 fn main(rt: HostRuntime) -> ExitCode {
-    match is_asked(&rt, b"give-up") {
+    match gives_up(&rt) {
         Some(gives_up) => report_gaps(&rt, gives_up),
         None => say(&mut rt.stderr(), b"gaps: the only argument is give-up\n"),
     }
