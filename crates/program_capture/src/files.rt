@@ -1,7 +1,7 @@
 // Files: read whole, made, and written so that what is written is on the disk.
 ghost use Rattle.std.specs.Prelude.{◌≡◌, ◌≤◌, length, IfOk};
 
-use crate::telling::{Act, Failure, Named, folder_of, put_other};
+use crate::telling::{Act, Failure, Named, folder_of, put_other, tell};
 use capture::SIZE;
 use std::fs::{File, OpenOptions};
 use std::io::{ErrorKind, Read, Write};
@@ -127,15 +127,17 @@ fn whole(rt: &HostRuntime, file: File, name: &[u8], new: &[u8], n: usize) -> Res
     rename(rt, new, name).map_err(|why| Failure::Call(Act::Make, Named::File, why))
 }
 
-// Makes the file under another name; false where there is a file of that name. If it cannot be made whole it is removed.
+// Makes the file under another name; false where there is a file of that name. If it cannot be made whole, that is said, and then it is
+// removed.
 fn made_as(rt: &HostRuntime, name: &[u8], new: &[u8], n: usize) -> Result<bool, Failure> {
     match create(rt, new) {
         Ok(file) => {
-            let made = whole(rt, file, name, new, n);
-            if made.is_err() {
+            if let Err(failure) = whole(rt, file, name, new, n) {
+                tell(&mut rt.stderr(), failure, name);
                 let _ = remove(rt, new);
+                return Err(Failure::Told);
             }
-            made.map(|_| true)
+            Ok(true)
         }
         Err(why) if why.kind() == ErrorKind::AlreadyExists => Ok(false),
         Err(why) => Err(Failure::Call(Act::Make, Named::Other(n), why)),

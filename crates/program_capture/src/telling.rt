@@ -62,6 +62,8 @@ pub(crate) enum Failure {
     Nameless,
     // other words, too few or too many
     Usage,
+    // what was said already
+    Told,
 }
 
 impl From<Unsound> for Failure {
@@ -212,12 +214,16 @@ impl Line {
             Failure::Usage => {
                 self.put(b"usage: capture append FILE | show FILE | verify FILE | --help");
             }
+            Failure::Told => {}
         }
     }
 }
 
 // Says on standard error what failed, if it can be said.
 pub(crate) fn tell<W: Write>(err: &mut W, failure: Failure, name: &[u8]) {
+    if matches!(failure, Failure::Told) {
+        return;
+    }
     let mut line = Line {
         text: [0; 4224],
         to: 0,
