@@ -77,6 +77,12 @@ fn main(rt: HostRuntime) -> ExitCode {
     let Err(failure) = print(&mut rt.stdin(), &mut rt.stdout()) else {
         return ExitCode::SUCCESS;
     };
-    let _ = writeln!(&mut rt.stderr(), "worked: {failure}");
+    // in one write, so that no other text comes between
+    let said: &[u8] = match failure {
+        Failure::Read => b"worked: cannot read standard input\n",
+        Failure::Long => b"worked: more than 65,536 bytes\n",
+        Failure::Write => b"worked: cannot write standard output\n",
+    };
+    let _ = rt.stderr().write_all(said);
     ExitCode::FAILURE
 }

@@ -1,5 +1,4 @@
 // Standard input in one piece, and standard output in large ones; test_numbers has the like: a crate for two tests would cost the gate more.
-use std::fmt;
 use std::io::{Read, Write};
 
 // The most bytes that a program takes. It has room for one more, so that it sees where there are more.
@@ -20,16 +19,6 @@ pub(crate) enum Failure {
     Long,
     // standard output took no more, or a text that fills the buffer to its end may have been cut
     Write,
-}
-
-impl fmt::Display for Failure {
-    fn fmt<W: fmt::Write>(&self, f: &mut fmt::Formatter<W>) -> fmt::Result {
-        match self {
-            Failure::Read => write!(f, "cannot read standard input"),
-            Failure::Long => write!(f, "more than 65,536 bytes"),
-            Failure::Write => write!(f, "cannot write standard output"),
-        }
-    }
 }
 
 // Reads standard input until it ends or the buffer is full, and answers how many bytes there are.
