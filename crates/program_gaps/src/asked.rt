@@ -1,5 +1,4 @@
-// What the arguments ask for. `is_asked` of line_feed does the same for its own word: were it a call of that library, it would have no
-// contract, since none can speak of arguments.
+// What the arguments ask for. `is_asked` of line_feed does the same for any word; no contract of either can speak of arguments.
 use line_feed::asked::is_given;
 use std::env::{Env, FillError};
 
